@@ -1,0 +1,24 @@
+//! The words that every layer of a sensor link receiver speaks of: edges and gaps, nibbles, rules, faults
+//! and reasons, and the places that bytes come from and go to.
+//!
+//! Times are whole ns. Lines are those of a logic analyser, 0 to 15. The rules' names, their numbers, the
+//! faults and the statuses are this project's own.
+#![tactic(auto)]
+
+mod edge;
+mod faults;
+mod memory;
+mod nibbles;
+mod reason;
+mod rule;
+mod sink;
+mod source;
+mod std_streams;
+
+pub use edge::{Edge, Item, Span};
+pub use faults::{Failed, LineFault, SetupFault, WordFault};
+pub use nibbles::Nibbles;
+pub use reason::Reason;
+pub use rule::Rule;
+pub use sink::Sink;
+pub use source::Source;

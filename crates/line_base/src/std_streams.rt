@@ -1,0 +1,1 @@
+//! Adapters over the standard streams.
