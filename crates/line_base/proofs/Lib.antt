@@ -1,0 +1,5 @@
+pub mod Fronts
+pub mod Orders
+pub mod Pieces
+pub mod Readers
+pub mod Writes

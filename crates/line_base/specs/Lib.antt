@@ -1,6 +1,9 @@
 pub mod Causes
 pub mod Streams
+pub mod Memory
+pub mod Adapters
 pub mod Rules
 pub mod Reasons
 pub mod Nibbles
 pub mod Orderly
+pub mod Readers

@@ -7,18 +7,24 @@
 
 mod edge;
 mod faults;
-mod memory;
+mod memory_sink;
+mod memory_source;
 mod nibbles;
 mod reason;
 mod rule;
 mod sink;
 mod source;
 mod std_streams;
+#[cfg(test)]
+mod tests;
 
 pub use edge::{Edge, Item, Span};
 pub use faults::{Failed, LineFault, SetupFault, WordFault};
+pub use memory_sink::MemorySink;
+pub use memory_source::MemorySource;
 pub use nibbles::Nibbles;
 pub use reason::Reason;
 pub use rule::Rule;
 pub use sink::Sink;
 pub use source::Source;
+pub use std_streams::{StdSink, StdSource};

@@ -22,8 +22,8 @@ impl Model for Nibbles {
     ghost invariant = { λ n. IsKept n.cells n.count };
 
     ghost inverse = { λ values. record {
-        cells = values ++ replicate (6 - length values) 0;
-        count = length values;
+      cells = values ++ replicate (6 - length values) 0;
+      count = length values;
     } };
 }
 
