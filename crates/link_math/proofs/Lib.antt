@@ -1,0 +1,5 @@
+pub mod BitLists
+pub mod CheckTable
+pub mod Nibbles
+pub mod Remainders
+pub mod Thresholds

@@ -1,0 +1,19 @@
+-- The 4-bit CRC of a SENT frame's nibbles (SAE J2716), as the remainder of a long division.
+use Rattle.std.specs.Prelude.{ℕ, Bool, true, false, List, [], ◌∷◌, ◌++◌, flat_map}
+use Rattle.link_math.specs.Division.{bits_of, number_of, remainder}
+
+-- the number of the four bits that remain of these bits by the polynomial x⁴ + x³ + x² + 1
+unfoldable pub crc4_remainder : List Bool → ℕ
+crc4_remainder bits = number_of (remainder (true ∷ true ∷ true ∷ false ∷ true ∷ []) bits)
+
+-- the bits 0101 and then each nibble in four bits
+unfoldable pub seeded : List ℕ → List Bool
+seeded nibbles = (false ∷ true ∷ false ∷ true ∷ []) ++ flat_map (bits_of 4) nibbles
+
+-- the legacy CRC nibble of these nibbles, the first sent first
+unfoldable pub crc4_legacy_of : List ℕ → ℕ
+crc4_legacy_of nibbles = crc4_remainder (seeded nibbles)
+
+-- the recommended CRC nibble of these nibbles, the first sent first: the bits 0000 follow them
+unfoldable pub crc4_of : List ℕ → ℕ
+crc4_of nibbles = crc4_remainder (seeded nibbles ++ (false ∷ false ∷ false ∷ false ∷ []))

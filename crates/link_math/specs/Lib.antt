@@ -1,0 +1,3 @@
+pub mod Checks
+pub mod Division
+pub mod Sent
