@@ -1,0 +1,12 @@
+pub mod Lines
+pub mod Fields
+pub mod Rows
+pub mod EdgeLists
+pub mod Limits
+pub mod Digits
+pub mod RowEdges
+pub mod PlainRows
+pub mod Texts
+pub mod Readings
+pub mod Readers
+pub mod Ordered

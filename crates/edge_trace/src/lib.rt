@@ -1,0 +1,26 @@
+//! Edge lists: rows of text that say when a line of a logic analyser changed its level, read from single
+//! bytes.
+//!
+//! The text forms, their limits and the order of the faults are this project's own. Times are in ns, at
+//! most 10^15, and lines are numbered 0 to 15.
+#![tactic(auto)]
+
+mod digits;
+mod edge_text;
+mod form;
+mod heads;
+mod line_bytes;
+mod lines;
+mod plain;
+mod reader;
+mod row;
+mod rows;
+mod state;
+#[cfg(test)]
+mod tests;
+mod texts;
+mod wide;
+
+pub use edge_text::edge_line;
+pub use reader::{EdgeReader, INPUT_LIMIT};
+pub use row::{Row, RowEdges};

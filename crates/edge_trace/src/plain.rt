@@ -1,0 +1,60 @@
+//! Plain rows: digits, digits and a level with commas between them, and no blanks. Nearly all narrow rows
+//! are plain, so these are read in one pass; any other row is judged field by field.
+ghost use Rattle.std.specs.Prelude.{◌≡◌, ℕ, ◌≤◌, IfSome};
+ghost use Rattle.edge_trace.specs.PlainRows.{BeginsWithNumber, SpellsEdge};
+
+use crate::digits::level_of;
+use line_base::Edge;
+
+/// The most bytes of a number of 16 digits and its comma. Such a number fits 64 bits.
+const NUMBER_ROOM: usize = 17;
+
+/// The digit `0`. Any byte that is no digit is more than 9 above it, or wraps to more.
+const ZERO: u32 = 48;
+
+/// The number of the digits, at most 16, before the first comma of a text, and what stands behind it.
+#[inline(always)]
+fn number_before_comma(text: &[u8]) -> Option<(u64, &[u8])>
+    ensures { IfSome result (λ parts. BeginsWithNumber text.now parts.0 parts.1.now) }
+{
+    let front = &text[..NUMBER_ROOM.min(text.len())];
+    let mut number = 0u64;
+    for (i, byte) in front.iter().enumerate() {
+        let value = u32::from(*byte).wrapping_sub(ZERO);
+        if value > 9 {
+            if *byte == b',' && i > 0 {
+                return Some((number, &text[i + 1..]));
+            }
+            return None;
+        }
+        number = number * 10 + u64::from(value);
+    }
+    None
+}
+
+/// The edge that a plain row spells.
+#[inline(always)]
+pub(crate) fn plain_row(content: &[u8]) -> Option<Edge>
+    ensures spelled { IfSome result (λ edge. SpellsEdge content.now edge) }
+    ensures line { IfSome result (λ edge. edge.line ≤ 15) }
+{
+    let (time, rest) = match number_before_comma(content) {
+        None => return None,
+        Some(parts) => parts,
+    };
+    let (line, last) = match number_before_comma(rest) {
+        None => return None,
+        Some(parts) => parts,
+    };
+    if line > 15 {
+        return None;
+    }
+    match level_of(last) {
+        None => None,
+        Some(level) => Some(Edge {
+            line: line as u8,
+            time,
+            level,
+        }),
+    }
+}

@@ -1,0 +1,219 @@
+//! The reader of edge lists, which is fed one byte at a time.
+//!
+//! It keeps the bytes of the unfinished line, and judges the line at its end. Most bytes are only put
+//! behind the others: while the line has room, nothing else is looked at.
+ghost use Rattle.std.specs.Prelude.{◌≡◌, ℕ, ◌≤◌, IsTrue};
+ghost use Rattle.edge_trace.specs.Readings.{is_in_range};
+
+use crate::heads::read_content;
+use crate::line_bytes::{LINE_LIMIT, LineBytes};
+use crate::row::{Row, RowEdges};
+use crate::state::State;
+use crate::texts::{content, length_before};
+use line_base::LineFault;
+
+/// How many bytes of an input may stand in lines: 2^36 - 1.
+pub const INPUT_LIMIT: u64 = 68_719_476_735;
+
+/// Reads an edge list byte by byte: both versions, the narrow and the wide form.
+///
+/// Contracts say which bytes a reader stands for: its answers are those that a list of these bytes has.
+/// Behind a fault or the end nothing more is answered.
+#[derive(Drop)]
+pub struct EdgeReader {
+    /// How far the list has come, and nothing behind a fault or the end.
+    state: Option<State>,
+    /// The bytes of the unfinished line.
+    line: LineBytes,
+    /// How many bytes the line may have now: 512, or what is left of the input; 0 behind a fault or the end.
+    room: usize,
+    /// How many bytes may still stand in lines, from the start of this line on.
+    left: u64,
+    /// How many lines have ended.
+    ended: u64,
+    /// The last level of each line, if it has one.
+    levels: [Option<bool>; 16],
+    ghost in_range: { IsTrue (is_in_range state) },
+    ghost fits: { room ≤ 512 },
+}
+
+impl EdgeReader {
+    ghost use Rattle.std.specs.Prelude.{◌<◌, ◌+◌, ◌-◌, ◌⊎◌, min, List, [], ◌∷◌, ◌++◌, length, take, Option, None, Some, Err};
+    ghost use Rattle.line_base.specs.declared.faults.LineFault.{LineFault as Fault};
+    ghost use Rattle.edge_trace.specs.Lines.{without_cr};
+    ghost use Rattle.edge_trace.specs.EdgeLists.{Standing, content_read};
+    ghost use Rattle.edge_trace.specs.Limits.{fault_of, answers_of, whole_answers_of, line_number_of, last_line};
+    ghost use Rattle.edge_trace.specs.Readings.{IsAt};
+    ghost use Rattle.edge_trace.specs.Readers.{answers_in, StandsFor, GoesOn, HasEnded, Takes, EndsLine};
+
+    /// A reader of no bytes.
+    pub fn new() -> EdgeReader
+        ensures stands { StandsFor result [] }
+    {
+        EdgeReader {
+            state: Some(State::Start),
+            line: LineBytes::new(),
+            room: LINE_LIMIT,
+            left: INPUT_LIMIT,
+            ended: 0,
+            levels: [None; 16],
+        }
+    }
+
+    /// Takes the next byte. Gives the row of the line that it ends, if that has an edge, or a fault, which is
+    /// the last answer.
+    #[inline(always)]
+    pub fn feed(&mut self, byte: u8) -> Option<Result<Row, LineFault>>
+        ensures stands { (seen : List ℕ) → StandsFor self.old seen → StandsFor self.new (seen ++ byte ∷ []) }
+        ensures grows { (seen : List ℕ) → StandsFor self.old seen → answers_of (seen ++ byte ∷ []) ≡ answers_of seen ++ answers_in result }
+        ensures stops { (seen : List ℕ) (number : ℕ) (fault : Fault) → StandsFor self.old seen → fault_of (seen ++ byte ∷ []) ≡ Some (number, fault) → HasEnded self.new number }
+        ensures ended { (number : ℕ) → HasEnded self.old number → (result ≡ None) × HasEnded self.new number }
+    {
+        if byte != b'\n' && self.line.len() < self.room {
+            self.line.push(byte);
+            return None;
+        }
+        self.turn(byte)
+    }
+
+    /// Takes bytes at the front of a block that end no line and are no fault, and answers how many: those
+    /// before the first LF, as many as have room in the line and in the input.
+    #[inline]
+    pub fn take_run(&mut self, block: &[u8]) -> usize
+        ensures fits { result ≤ length block.now }
+        ensures stands { (seen : List ℕ) → StandsFor self.old seen → StandsFor self.new (seen ++ take result block.now) }
+        ensures quiet { (seen : List ℕ) → StandsFor self.old seen → answers_of (seen ++ take result block.now) ≡ answers_of seen }
+        ensures ended { (number : ℕ) → HasEnded self.old number → (result ≡ 0) × HasEnded self.new number }
+    {
+        let room = self.room.saturating_sub(self.line.len());
+        let count = length_before(block, b'\n', room);
+        self.line.extend(&block[..count]);
+        count
+    }
+
+    /// Ends the input: an unfinished last line counts as ended. This is the last answer.
+    pub fn finish(&mut self) -> Option<Result<Row, LineFault>>
+        ensures whole { (seen : List ℕ) → StandsFor self.old seen → whole_answers_of seen ≡ answers_of seen ++ answers_in result }
+        ensures ends { (seen : List ℕ) → StandsFor self.old seen → HasEnded self.new (line_number_of seen) }
+        ensures ended { (number : ℕ) → HasEnded self.old number → (result ≡ None) × HasEnded self.new number }
+    {
+        match self.state {
+            None => None,
+            Some(state) => {
+                let answer = self.end_input(state);
+                self.state = None;
+                self.room = 0;
+                answer
+            }
+        }
+    }
+
+    /// The number, from 1, of the line of the last byte taken, or of the fault; 0 before the first byte.
+    pub fn line_number(&self) -> u64
+        ensures number { (seen : List ℕ) → StandsFor self.now seen → result ≡ line_number_of seen }
+        ensures ended { (number : ℕ) → HasEnded self.now number → result ≡ number }
+    {
+        if self.line.len() == 0 {
+            self.ended
+        } else {
+            self.ended.saturating_add(1)
+        }
+    }
+
+    /// Takes a byte that is an LF, or for which there is no room.
+    #[inline(always)]
+    fn turn(&mut self, byte: u8) -> Option<Result<Row, LineFault>>
+        ensures takes { (seen : List ℕ) → StandsFor self.old seen → (byte ≡ 10) ⊎ (self.old.room ≤ length self.old.line) → Takes self.new seen byte result }
+        ensures ended { (number : ℕ) → HasEnded self.old number → (result ≡ None) × HasEnded self.new number }
+    {
+        match self.state {
+            None => None,
+            Some(state) => {
+                if self.line.len() as u64 >= self.left {
+                    return self.stop(LineFault::InputTooLong);
+                }
+                if byte == b'\n' {
+                    return self.end_line(state);
+                }
+                self.stop(LineFault::LineTooLong)
+            }
+        }
+    }
+
+    /// Judges the unfinished line, if there is one, as ended.
+    fn end_input(&mut self, state: State) -> Option<Result<Row, LineFault>>
+        requires { IsTrue (is_in_range (Some state)) }
+        ensures whole { (seen : List ℕ) → GoesOn self.old state seen → whole_answers_of seen ≡ answers_of seen ++ answers_in result }
+        ensures number { (seen : List ℕ) → GoesOn self.old state seen → self.new.ended + length (last_line self.new.line) ≡ line_number_of seen }
+        ensures small { (seen : List ℕ) → GoesOn self.old state seen → self.new.ended < 9223372036854775808 }
+    {
+        if self.line.len() == 0 {
+            return None;
+        }
+        self.end_line(state)
+    }
+
+    /// Stops at a fault of the line of the last byte.
+    #[inline(always)]
+    fn stop(&mut self, fault: LineFault) -> Option<Result<Row, LineFault>>
+        ensures state { self.new.state ≡ None }
+        ensures room { self.new.room ≡ 0 }
+        ensures line { self.new.line ≡ [] }
+        ensures number { self.new.ended ≡ min (self.old.ended + 1) 18446744073709551615 }
+        ensures left { self.new.left ≡ self.old.left }
+        ensures answer { result ≡ Some (Err fault) }
+    {
+        self.state = None;
+        self.room = 0;
+        self.line.clear();
+        self.ended = self.ended.saturating_add(1);
+        Some(Err(fault))
+    }
+
+    /// Judges the line that has ended, and begins the next.
+    #[inline(always)]
+    fn end_line(&mut self, state: State) -> Option<Result<Row, LineFault>>
+        requires { IsTrue (is_in_range (Some state)) }
+        ensures read { (standing : Standing) → IsAt state self.old.levels standing → EndsLine self.new (content_read standing (without_cr self.old.line)) result }
+        ensures line { self.new.line ≡ [] }
+        ensures number { self.new.ended ≡ min (self.old.ended + 1) 18446744073709551615 }
+        ensures left { self.new.left ≡ self.old.left - (length self.old.line + 1) }
+    {
+        let mut edges = RowEdges::new();
+        let line = content(self.line.as_slice());
+        let read = read_content(state, line, &mut self.levels, &mut edges);
+        self.left = self.left.saturating_sub(self.line.len() as u64 + 1);
+        match read {
+            Err(fault) => self.stop(fault),
+            Ok(next) => {
+                self.begin_line(next);
+                if edges.is_empty() {
+                    None
+                } else {
+                    Some(Ok(Row { edges }))
+                }
+            }
+        }
+    }
+
+    /// Begins the next line, where the list has come so far.
+    #[inline]
+    fn begin_line(&mut self, next: State)
+        requires { IsTrue (is_in_range (Some next)) }
+        ensures state { self.new.state ≡ Some next }
+        ensures room { self.new.room ≡ min 512 self.old.left }
+        ensures line { self.new.line ≡ [] }
+        ensures number { self.new.ended ≡ min (self.old.ended + 1) 18446744073709551615 }
+        ensures left { self.new.left ≡ self.old.left }
+        ensures levels { self.new.levels ≡ self.old.levels }
+    {
+        self.state = Some(next);
+        self.room = if self.left < LINE_LIMIT as u64 {
+            self.left as usize
+        } else {
+            LINE_LIMIT
+        };
+        self.line.clear();
+        self.ended = self.ended.saturating_add(1);
+    }
+}
