@@ -1,0 +1,224 @@
+//! Where a reader stands between two pulses.
+ghost use Rattle.std.specs.Prelude.{IsTrue, ◌≡◌, ◌+◌, ◌^◌, ◌≤◌, ◌++◌, ◌∷◌, List, ℕ, length};
+ghost use Rattle.link_math.specs.Sent.{is_calibration};
+ghost use Rattle.sent_frame.specs.Pulses.{Pulse};
+ghost use Rattle.sent_frame.specs.Reading.{Hunting, due_after, reports_past, checked};
+ghost use Rattle.sent_frame.specs.Positions.{IsKeptPulse, IsPosition, reads_on, steps_of};
+
+use crate::crc::crc_nibble;
+use crate::frame::{SentFrame, SentStep};
+use crate::setup::SentSetup;
+use crate::values::FrameValues;
+use line_base::{Nibbles, Rule};
+use link_math::{nibble_of, pause_fits, steady, window};
+
+/// Where a reader stands between two pulses, with what it has kept. Lengths are in ns.
+#[derive(Clone, Copy, Debug, PartialEq, Eq)]
+pub enum Position {
+    /// No pulse before matters.
+    Hunting,
+    /// The last pulse may be a calibration pulse. The next one tells whether it was a false start.
+    Candidate {
+        /// Its length.
+        calibration: u64,
+    },
+    /// In a frame.
+    Frame {
+        /// The length of its calibration pulse.
+        calibration: u64,
+        /// The values so far, fewer than the frame has.
+        values: FrameValues,
+    },
+    /// After a frame, a pause pulse is due.
+    Pause {
+        /// The length of that frame's calibration pulse.
+        calibration: u64,
+    },
+    /// After a frame and its pause, where it has one, the next calibration pulse is due.
+    Calibration {
+        /// The length of that frame's calibration pulse.
+        calibration: u64,
+    },
+}
+
+/// Whether a pulse of so many ns may be a calibration pulse.
+fn may_calibrate(setup: &SentSetup, pulse: u64) -> bool
+    requires { pulse ≤ 10 ^ 15 }
+    ensures value { result ≡ is_calibration pulse setup.now.tick setup.now.jitter }
+    ensures some { IsTrue result → 1 ≤ pulse }
+{
+    window(pulse, setup.tick(), setup.jitter())
+}
+
+/// Where a hunting reader stands after a pulse of so many ns.
+fn hunt(setup: &SentSetup, pulse: u64) -> Position
+    requires { pulse ≤ 10 ^ 15 }
+    ensures valid { IsPosition setup.now result }
+    ensures reads { (place : ℕ) (pulses : List Pulse) →
+        reports_past setup.now 0 Hunting (record { place = place; length = pulse } ∷ pulses) ≡ reads_on setup.now result pulses }
+{
+    if may_calibrate(setup, pulse) {
+        Position::Candidate { calibration: pulse }
+    } else {
+        Position::Hunting
+    }
+}
+
+/// The last pulse of a frame is there: what the frame comes to, at this place.
+fn check(setup: &SentSetup, values: FrameValues, place: u64) -> SentStep
+    requires { length values ≡ setup.now.nibbles + 2 }
+    ensures { result ≡ checked setup.now place values }
+{
+    let values = values.as_slice();
+    let count = usize::from(setup.nibbles());
+    let nibbles = &values[1..=count];
+    let check = crc_nibble(setup.crc(), nibbles);
+    match Nibbles::new(nibbles) {
+        Some(nibbles) if check == values[count + 1] => SentStep::Good {
+            place,
+            frame: SentFrame {
+                status: values[0],
+                nibbles,
+            },
+        },
+        _ => SentStep::Bad {
+            place,
+            rule: Rule::Check,
+        },
+    }
+}
+
+/// Where a reader stands after a frame whose calibration pulse had so many ns.
+fn after_frame(setup: &SentSetup, calibration: u64) -> Position
+    requires { IsKeptPulse setup.now calibration }
+    ensures valid { IsPosition setup.now result }
+    ensures reads { (pulses : List Pulse) → reads_on setup.now result pulses ≡ reports_past setup.now 0 (due_after setup.now calibration) pulses }
+{
+    if setup.pause() {
+        Position::Pause { calibration }
+    } else {
+        Position::Calibration { calibration }
+    }
+}
+
+/// The next pulse of a frame: its value is kept, or ends the frame, or there is none.
+fn read_value(
+    setup: &SentSetup,
+    calibration: u64,
+    values: FrameValues,
+    pulse: u64,
+    place: u64,
+) -> (Position, SentStep)
+    requires in_range { pulse ≤ 10 ^ 15 }
+    requires valid { IsPosition setup.now (Position.Frame calibration values) }
+    ensures valid { IsPosition setup.now result.0 }
+    ensures reads { (pulses : List Pulse) →
+        reads_on setup.now (Position.Frame calibration values) (record { place = place; length = pulse } ∷ pulses) ≡ steps_of result.1 ++ reads_on setup.now result.0 pulses }
+{
+    let whole = usize::from(setup.nibbles()) + 2;
+    let Some(value) = nibble_of(pulse, calibration) else {
+        let broken = SentStep::Bad {
+            place,
+            rule: Rule::NibbleRange,
+        };
+        return (hunt(setup, pulse), broken);
+    };
+    let values = values.with(value);
+    if values.len() < whole {
+        return (
+            Position::Frame {
+                calibration,
+                values,
+            },
+            SentStep::Nothing,
+        );
+    }
+    let next = after_frame(setup, calibration);
+    let step = check(setup, values, place);
+    (next, step)
+}
+
+/// The pulse after a frame, or after its pause: a calibration pulse is due, and so many ns was the one
+/// before.
+fn read_calibration(setup: &SentSetup, earlier: u64, pulse: u64, place: u64) -> (Position, SentStep)
+    requires in_range { pulse ≤ 10 ^ 15 }
+    requires valid { IsPosition setup.now (Position.Calibration earlier) }
+    ensures valid { IsPosition setup.now result.0 }
+    ensures reads { (pulses : List Pulse) →
+        reads_on setup.now (Position.Calibration earlier) (record { place = place; length = pulse } ∷ pulses) ≡ steps_of result.1 ++ reads_on setup.now result.0 pulses }
+{
+    if !may_calibrate(setup, pulse) {
+        let rule = Rule::NoCalibration;
+        return (Position::Hunting, SentStep::Bad { place, rule });
+    }
+    if !steady(earlier, pulse) {
+        // It is read again, and may begin a frame.
+        let rule = Rule::Drift;
+        let again = Position::Candidate { calibration: pulse };
+        return (again, SentStep::Bad { place, rule });
+    }
+    let values = FrameValues::new();
+    let frame = Position::Frame {
+        calibration: pulse,
+        values,
+    };
+    (frame, SentStep::Nothing)
+}
+
+/// The pulse after a frame where a pause pulse is due, and so many ns was the frame's calibration pulse.
+fn read_pause(setup: &SentSetup, calibration: u64, pulse: u64, place: u64) -> (Position, SentStep)
+    requires in_range { pulse ≤ 10 ^ 15 }
+    requires valid { IsPosition setup.now (Position.Pause calibration) }
+    ensures valid { IsPosition setup.now result.0 }
+    ensures reads { (pulses : List Pulse) →
+        reads_on setup.now (Position.Pause calibration) (record { place = place; length = pulse } ∷ pulses) ≡ steps_of result.1 ++ reads_on setup.now result.0 pulses }
+{
+    if pause_fits(pulse, calibration) {
+        return (Position::Calibration { calibration }, SentStep::Nothing);
+    }
+    let rule = Rule::PauseRange;
+    (Position::Hunting, SentStep::Bad { place, rule })
+}
+
+/// The pulse after one that may be a calibration pulse of so many ns: a frame begins, unless it was a
+/// false start.
+fn read_start(setup: &SentSetup, calibration: u64, pulse: u64, place: u64) -> (Position, SentStep)
+    requires in_range { pulse ≤ 10 ^ 15 }
+    requires valid { IsPosition setup.now (Position.Candidate calibration) }
+    ensures valid { IsPosition setup.now result.0 }
+    ensures reads { (pulses : List Pulse) →
+        reads_on setup.now (Position.Candidate calibration) (record { place = place; length = pulse } ∷ pulses) ≡ steps_of result.1 ++ reads_on setup.now result.0 pulses }
+{
+    if may_calibrate(setup, pulse) {
+        let later = Position::Candidate { calibration: pulse };
+        return (later, SentStep::Nothing);
+    }
+    read_value(setup, calibration, FrameValues::new(), pulse, place)
+}
+
+/// Where a reader stands after a pulse of so many ns that ends at this place, and what it answers.
+pub fn after_pulse(
+    setup: &SentSetup,
+    position: Position,
+    pulse: u64,
+    place: u64,
+) -> (Position, SentStep)
+    requires in_range { pulse ≤ 10 ^ 15 }
+    requires valid { IsPosition setup.now position }
+    ensures valid { IsPosition setup.now result.0 }
+    ensures reads { (pulses : List Pulse) →
+        reads_on setup.now position (record { place = place; length = pulse } ∷ pulses) ≡ steps_of result.1 ++ reads_on setup.now result.0 pulses }
+{
+    match position {
+        Position::Hunting => (hunt(setup, pulse), SentStep::Nothing),
+        Position::Candidate { calibration } => read_start(setup, calibration, pulse, place),
+        Position::Frame {
+            calibration,
+            values,
+        } => read_value(setup, calibration, values, pulse, place),
+        Position::Pause { calibration } => read_pause(setup, calibration, pulse, place),
+        Position::Calibration { calibration } => {
+            read_calibration(setup, calibration, pulse, place)
+        }
+    }
+}
