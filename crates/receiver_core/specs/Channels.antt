@@ -1,0 +1,45 @@
+-- Which reports a channel gives of its items; this project's own.
+use Rattle.std.specs.Prelude.{ℕ, ◌+◌, List, [], ◌∷◌, ◌++◌, None}
+use Rattle.line_base.specs.declared.edge.Item.{Item}
+use Rattle.line_base.specs.declared.edge.Item.TheVariants as item
+use Rattle.sent_frame.specs.Pulses.{NumberedEdge}
+use Rattle.sent_frame.specs.Reading.{sent_reading}
+use Rattle.receiver_core.specs.declared.report.Report.{Report}
+use Rattle.receiver_core.specs.declared.report.What.TheVariants as what
+use Rattle.receiver_core.specs.declared.setup.ChannelSetup.{ChannelSetup}
+use Rattle.receiver_core.specs.declared.setup.ChannelSetup.TheVariants.{Sent}
+use Rattle.receiver_core.specs.SentReports.{report, sent_reports}
+
+-- how many edges these items are, with those that were lost
+abbrev pub edges_counted : List Item → ℕ
+edges_counted [] = 0
+edges_counted (item.Edge edge ∷ items) = 1 + edges_counted items
+edges_counted (item.Gap first count ∷ items) = count + edges_counted items
+edges_counted (item.End ∷ items) = edges_counted items
+edges_counted (item.Cut ∷ items) = edges_counted items
+
+-- the reports of a stretch of edges, which no gap parts
+unfoldable pub stretch_reports : ChannelSetup → List NumberedEdge → List Report
+stretch_reports (Sent line setup layout) edges = sent_reports layout None (sent_reading setup edges)
+
+-- the reports that the end adds to those of the last stretch: none for SENT
+unfoldable pub end_reports : ChannelSetup → List NumberedEdge → List Report
+end_reports (Sent line setup layout) edges = []
+
+-- the reports of the last edges since a gap and of these items, which come after so many edges: each stretch is read from its start, each gap is told between two, and nothing is read after an end
+unfoldable pub reports_from : ChannelSetup → ℕ → List NumberedEdge → List Item → List Report
+reports_from setup number stretch [] = stretch_reports setup stretch
+reports_from setup number stretch (item.Edge edge ∷ items) =
+    reports_from setup (number + 1) (stretch ++ record { number = number; edge = edge } ∷ []) items
+reports_from setup number stretch (item.Gap first count ∷ items) =
+    stretch_reports setup stretch ++ report first (what.Gap count) ∷ reports_from setup (number + count) [] items
+reports_from setup number stretch (item.End ∷ items) = stretch_reports setup stretch ++ end_reports setup stretch
+reports_from setup number stretch (item.Cut ∷ items) = stretch_reports setup stretch
+
+-- the reports of the items of a channel so far
+unfoldable pub so_far : ChannelSetup → List Item → List Report
+so_far setup items = reports_from setup 0 [] items
+
+-- the reports of the items of a channel, with those that the end adds
+unfoldable pub final : ChannelSetup → List Item → List Report
+final setup items = so_far setup (items ++ item.End ∷ [])

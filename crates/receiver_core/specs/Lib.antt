@@ -1,0 +1,7 @@
+pub mod Setups
+pub mod SentReports
+pub mod SentStretches
+pub mod Channels
+pub mod OpenStretches
+pub mod Readers
+pub mod Tallies

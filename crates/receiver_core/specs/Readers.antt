@@ -1,0 +1,32 @@
+-- Which items a channel's receiver stands for, and which it may be handed; this project's own.
+use Rattle.std.specs.Prelude.{◌≡◌, ℕ, ◌+◌, ◌-◌, ◌^◌, ◌<◌, ◌≤◌, List, Option, None, Some}
+use Rattle.line_base.specs.declared.edge.Item.{Item}
+use Rattle.line_base.specs.declared.edge.Item.TheVariants as item
+use Rattle.sent_frame.specs.Pulses.{NumberedEdge}
+use Rattle.receiver_core.specs.declared.setup.ChannelSetup.{ChannelSetup}
+use Rattle.receiver_core.specs.declared.setup.ChannelSetup.TheVariants.{Sent}
+use Rattle.receiver_core.specs.declared.receiver.Link.{Link}
+use Rattle.receiver_core.specs.declared.receiver.Link.TheVariants as link
+use Rattle.receiver_core.specs.declared.receiver.Receiver.{Receiver}
+use Rattle.receiver_core.specs.SentStretches.{StandsForStretch}
+use Rattle.receiver_core.specs.Channels.{edges_counted}
+use Rattle.receiver_core.specs.OpenStretches.{open_stretch}
+
+-- the link has this setup and stands for these edges; where there are none, it has ended
+abbrev pub LinkStandsFor : ChannelSetup → Link → Option (List NumberedEdge) → Type 0
+LinkStandsFor (Sent line setup layout) (link.Sent channel) (Some stretch) = StandsForStretch setup layout channel stretch
+LinkStandsFor (Sent line setup layout) (link.Sent channel) None = ⊥
+LinkStandsFor (Sent line setup layout) link.Ended (Some stretch) = ⊥
+LinkStandsFor (Sent line setup layout) link.Ended None = Unit {0}
+
+-- the receiver has this setup and stands for these items: its link stands for the edges since the last gap, and the number of its next edge is the number of edges, with those that were lost
+pub record StandsFor (setup : ChannelSetup) (receiver : Receiver) (items : List Item) : Type 0 where
+  pub numbered : receiver.number ≡ edges_counted items
+  pub reads : LinkStandsFor setup receiver.link (open_stretch items)
+
+-- a receiver may be handed this item after so many edges: an edge at a time of at most 10^15 ns, and numbers of edges that stay below 2^64
+abbrev pub IsTakeable : ℕ → Item → Type 0
+IsTakeable number (item.Edge edge) = (edge.time ≤ 10 ^ 15) × (number < 2 ^ 64 - 1)
+IsTakeable number (item.Gap first count) = number + count < 2 ^ 64
+IsTakeable number item.End = Unit {0}
+IsTakeable number item.Cut = Unit {0}

@@ -1,0 +1,67 @@
+-- Which reports a SENT channel gives of what its reader ends (counter: SAE J2716; order and resets: this project's own).
+use Rattle.std.specs.Prelude.{ℕ, ◌+◌, ◌%◌, ◌==◌, List, [], ◌∷◌, ◌++◌, Option, None, Some, Result, Ok, Err, if◌then◌else◌}
+use Rattle.line_base.specs.declared.rule.Rule.{Rule}
+use Rattle.sent_frame.specs.declared.frame.SentStep.{SentStep}
+use Rattle.sent_frame.specs.declared.frame.SentStep.TheVariants.{Nothing, Good, Bad}
+use Rattle.sent_fast.specs.declared.layout.Layout.{Layout}
+use Rattle.sent_fast.specs.declared.layout.Fast.{Fast}
+use Rattle.sent_fast.specs.declared.layout.Fast.TheVariants as fast
+use Rattle.sent_fast.specs.Layouts.{FitsLayout, fast_of}
+use Rattle.receiver_core.specs.declared.report.Report.{Report}
+use Rattle.receiver_core.specs.declared.report.What.{What}
+use Rattle.receiver_core.specs.declared.report.What.TheVariants as what
+
+-- the report that says this at this place
+abbrev pub report : ℕ → What → Report
+report place says = record { place = place; what = says }
+
+-- the report of a counter that isn't one more than the counter before, with 0 after 255; none where there was no counter before
+abbrev pub counter_reports : ℕ → Option ℕ → ℕ → List Report
+counter_reports place None now = []
+counter_reports place (Some before) now = if now == (before + 1) % 256 then [] else report place (what.Counter before now) ∷ []
+
+-- the reports of what a frame's nibbles say: the value, or the rule that they break; nothing where the layout is raw; a counter is watched
+abbrev pub value_reports : ℕ → Option ℕ → Result Fast Rule → List Report
+value_reports place before (Err rule) = report place (what.Bad rule) ∷ []
+value_reports place before (Ok fast.Raw) = []
+value_reports place before (Ok (fast.One a)) = report place (what.Fast (fast.One a)) ∷ []
+value_reports place before (Ok (fast.Two a b)) = report place (what.Fast (fast.Two a b)) ∷ []
+value_reports place before (Ok (fast.Secure a counter)) = report place (what.Fast (fast.Secure a counter)) ∷ counter_reports place before counter
+value_reports place before (Ok (fast.Split a b)) = report place (what.Fast (fast.Split a b)) ∷ []
+
+-- the counter of the last frame, after a frame that says this: its own if it has one, none after a broken rule, else the one before
+abbrev pub watch_after : Option ℕ → Result Fast Rule → Option ℕ
+watch_after before (Err rule) = None
+watch_after before (Ok fast.Raw) = before
+watch_after before (Ok (fast.One a)) = before
+watch_after before (Ok (fast.Two a b)) = before
+watch_after before (Ok (fast.Secure a counter)) = Some counter
+watch_after before (Ok (fast.Split a b)) = before
+
+-- the reports of one step of the reader, all at its place: a good frame, then what its nibbles say; or the rule that is broken
+abbrev pub step_reports : Layout → Option ℕ → SentStep → List Report
+step_reports layout before Nothing = []
+step_reports layout before (Good place frame) = report place (what.Frame frame) ∷ value_reports place before (fast_of layout frame.nibbles)
+step_reports layout before (Bad place rule) = report place (what.Bad rule) ∷ []
+
+-- the counter of the last frame, after one step of the reader: none after a broken rule
+abbrev pub watch_past_step : Layout → Option ℕ → SentStep → Option ℕ
+watch_past_step layout before Nothing = before
+watch_past_step layout before (Good place frame) = watch_after before (fast_of layout frame.nibbles)
+watch_past_step layout before (Bad place rule) = None
+
+-- the reports of steps of the reader, where the frame before them had this counter
+unfoldable pub sent_reports : Layout → Option ℕ → List SentStep → List Report
+sent_reports layout before [] = []
+sent_reports layout before (step ∷ steps) = step_reports layout before step ++ sent_reports layout (watch_past_step layout before step) steps
+
+-- the counter of the last frame, after these steps of the reader
+unfoldable pub watch_past : Layout → Option ℕ → List SentStep → Option ℕ
+watch_past layout before [] = before
+watch_past layout before (step ∷ steps) = watch_past layout (watch_past_step layout before step) steps
+
+-- a frame that the step reports has as many nibbles as the layout
+abbrev pub IsReadable : Layout → SentStep → Type 0
+IsReadable layout Nothing = Unit {0}
+IsReadable layout (Good place frame) = FitsLayout layout frame.nibbles
+IsReadable layout (Bad place rule) = Unit {0}

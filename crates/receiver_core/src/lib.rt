@@ -1,0 +1,19 @@
+//! One channel: the items of its edge list in, its reports out.
+//!
+//! A channel is one link of one setup: edges of its lines, runs of edges that were lost, and an end. Between
+//! two gaps the link is read from its start; a gap drops what is open, and the numbers of edges run on over
+//! it. Which report comes when, what a violated rule resets, and what is counted is this project's own.
+#![tactic(auto)]
+
+mod receiver;
+mod report;
+mod sent_channel;
+mod setup;
+mod tally;
+#[cfg(test)]
+mod tests;
+
+pub use receiver::Receiver;
+pub use report::{Report, What};
+pub use setup::ChannelSetup;
+pub use tally::Tally;

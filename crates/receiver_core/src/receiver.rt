@@ -1,0 +1,146 @@
+//! One channel's receiver.
+ghost use Rattle.std.specs.Prelude.{◌≡◌, ◌^◌, ◌≤◌, ◌++◌, [], ◌∷◌, List, ℕ, Option, None};
+ghost use Rattle.line_base.specs.declared.edge.Item.{Item};
+ghost use Rattle.sent_frame.specs.Pulses.{NumberedEdge};
+ghost use Rattle.receiver_core.specs.declared.setup.ChannelSetup.{ChannelSetup};
+ghost use Rattle.receiver_core.specs.Setups.{setup_fault_of};
+ghost use Rattle.receiver_core.specs.Channels.{edges_counted, so_far};
+ghost use Rattle.receiver_core.specs.OpenStretches.{open_with, resumed};
+
+use crate::report::{Report, What};
+use crate::sent_channel::SentChannel;
+use crate::setup::ChannelSetup;
+use arrayvec::ArrayVec;
+use line_base::{Edge, Item};
+
+/// What reads a channel's edges.
+#[derive(Debug, Drop)]
+enum Link {
+    /// SENT frames.
+    Sent(SentChannel),
+    /// An end came: nothing more is read.
+    Ended,
+}
+
+/// Reads one channel, an item at a time, with memory of fixed size. Contracts say by `StandsFor` which list
+/// of items it stands for. A gap drops what is open, and nothing is told after an end.
+#[derive(Debug, Drop)]
+pub struct Receiver {
+    /// The number of the next edge, lost ones counted.
+    number: u64,
+    /// Reads the edges since the last gap.
+    link: Link,
+}
+
+impl Link {
+    ghost use Rattle.receiver_core.specs.Readers.{LinkStandsFor};
+
+    /// What reads the edges of a setup that has no fault.
+    fn new(setup: ChannelSetup) -> Link
+        requires { setup_fault_of setup ≡ None }
+        ensures { LinkStandsFor setup result (Some []) }
+    {
+        match setup {
+            ChannelSetup::Sent { setup, layout, .. } => Link::Sent(SentChannel::new(setup, layout)),
+        }
+    }
+
+    /// Takes the next edge, with its number in the channel.
+    fn edge(&mut self, number: u64, edge: Edge) -> ArrayVec<Report, 8>
+        requires in_range { edge.time ≤ 10 ^ 15 }
+        requires stands { (setup : ChannelSetup) × (stretch : Option (List NumberedEdge)) × LinkStandsFor setup self.old stretch }
+        ensures stands { (setup : ChannelSetup) (stretch : Option (List NumberedEdge)) → LinkStandsFor setup self.old stretch
+            → LinkStandsFor setup self.new (open_with number stretch (Item.Edge edge)) }
+        ensures grows { (setup : ChannelSetup) (stretch : Option (List NumberedEdge)) → LinkStandsFor setup self.old stretch
+            → resumed setup number stretch (Item.Edge edge ∷ []) ≡ resumed setup number stretch [] ++ result.items }
+    {
+        match self {
+            Link::Sent(channel) => channel.push(number, edge),
+            Link::Ended => ArrayVec::new(),
+        }
+    }
+
+    /// Takes a gap: what is open is dropped.
+    fn gap(&mut self, first: u64, count: u64) -> ArrayVec<Report, 8>
+        ensures stands { (setup : ChannelSetup) (number : ℕ) (stretch : Option (List NumberedEdge)) → LinkStandsFor setup self.old stretch
+            → LinkStandsFor setup self.new (open_with number stretch (Item.Gap first count)) }
+        ensures grows { (setup : ChannelSetup) (number : ℕ) (stretch : Option (List NumberedEdge)) → LinkStandsFor setup self.old stretch
+            → resumed setup number stretch (Item.Gap first count ∷ []) ≡ resumed setup number stretch [] ++ result.items }
+    {
+        let mut reports = ArrayVec::new();
+        match self {
+            Link::Sent(channel) => {
+                channel.reset();
+                reports.push(Report {
+                    place: first,
+                    what: What::Gap { count },
+                });
+            }
+            Link::Ended => {}
+        }
+        reports
+    }
+
+    /// Takes the end of a whole list.
+    fn end(&mut self) -> ArrayVec<Report, 8>
+        ensures stands { (setup : ChannelSetup) (number : ℕ) (stretch : Option (List NumberedEdge)) → LinkStandsFor setup self.old stretch
+            → LinkStandsFor setup self.new (open_with number stretch Item.End) }
+        ensures grows { (setup : ChannelSetup) (number : ℕ) (stretch : Option (List NumberedEdge)) → LinkStandsFor setup self.old stretch
+            → resumed setup number stretch (Item.End ∷ []) ≡ resumed setup number stretch [] ++ result.items }
+    {
+        // A frame that is open at the end isn't whole: there is no report of it.
+        let reports = ArrayVec::new();
+        *self = Link::Ended;
+        reports
+    }
+
+    /// Takes the end of a list that was cut off: what is open is dropped.
+    fn cut(&mut self) -> ArrayVec<Report, 8>
+        ensures stands { (setup : ChannelSetup) (number : ℕ) (stretch : Option (List NumberedEdge)) → LinkStandsFor setup self.old stretch
+            → LinkStandsFor setup self.new (open_with number stretch Item.Cut) }
+        ensures grows { (setup : ChannelSetup) (number : ℕ) (stretch : Option (List NumberedEdge)) → LinkStandsFor setup self.old stretch
+            → resumed setup number stretch (Item.Cut ∷ []) ≡ resumed setup number stretch [] ++ result.items }
+    {
+        *self = Link::Ended;
+        ArrayVec::new()
+    }
+}
+
+impl Receiver {
+    ghost use Rattle.receiver_core.specs.Readers.{StandsFor, IsTakeable};
+
+    /// A receiver for this setup, which has no fault, that has taken no item.
+    pub fn new(setup: ChannelSetup) -> Receiver
+        requires { setup_fault_of setup ≡ None }
+        ensures { StandsFor setup result [] }
+    {
+        Receiver {
+            number: 0,
+            link: Link::new(setup),
+        }
+    }
+
+    /// Takes the next item of the channel, and gives the reports that come with it. An edge is on one of
+    /// the channel's lines, at a time of at most 10^15 ns; the number of edges, lost ones counted, stays
+    /// below 2^64.
+    pub fn push(&mut self, item: Item) -> ArrayVec<Report, 8>
+        requires { (setup : ChannelSetup) × (seen : List Item) × StandsFor setup self.old seen × IsTakeable (edges_counted seen) item }
+        ensures stands { (setup : ChannelSetup) (seen : List Item) → StandsFor setup self.old seen → StandsFor setup self.new (seen ++ item ∷ []) }
+        ensures grows { (setup : ChannelSetup) (seen : List Item) → StandsFor setup self.old seen
+            → so_far setup (seen ++ item ∷ []) ≡ so_far setup seen ++ result.items }
+    {
+        let number = self.number;
+        match item {
+            Item::Edge(edge) => {
+                self.number = number + 1;
+                self.link.edge(number, edge)
+            }
+            Item::Gap { first, count } => {
+                self.number = number + count;
+                self.link.gap(first, count)
+            }
+            Item::End => self.link.end(),
+            Item::Cut => self.link.cut(),
+        }
+    }
+}

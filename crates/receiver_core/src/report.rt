@@ -1,0 +1,48 @@
+//! What a receiver answers.
+
+use line_base::Rule;
+use sent_fast::Fast;
+use sent_frame::SentFrame;
+
+/// What a report says.
+#[derive(Clone, Copy, Debug, PartialEq, Eq)]
+pub enum What {
+    /// A good SENT frame.
+    Frame(SentFrame),
+    /// What the data nibbles of a good frame say in the channel's layout, where that isn't raw.
+    Fast(Fast),
+    /// The counter of a frame doesn't follow the one before.
+    Counter {
+        /// The counter before, 0 to 255.
+        before: u8,
+        /// The counter of this frame.
+        now: u8,
+    },
+    /// A rule is violated.
+    Bad(Rule),
+    /// Edges were lost.
+    Gap {
+        /// How many, at least 1.
+        count: u64,
+    },
+}
+
+/// What a channel has to tell, and where.
+#[derive(Clone, Copy, Debug, PartialEq, Eq)]
+pub struct Report {
+    /// The number of the edge at which it stands, counted from 0 in the channel; for a gap that of its
+    /// first lost edge.
+    pub place: u64,
+    /// What it says.
+    pub what: What,
+}
+
+impl Default for Report {
+    /// A gap of no edges at place 0. It says nothing, and stands in the unused places of a list of reports.
+    fn default() -> Report {
+        Report {
+            place: 0,
+            what: What::Gap { count: 0 },
+        }
+    }
+}
