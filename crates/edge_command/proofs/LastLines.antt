@@ -1,0 +1,53 @@
+-- What the last line of an input adds.
+use Rattle.std.proofs.Common.{◌≡◌, ◌≤◌, ◌^◌, ℕ, List, [], ◌∷◌, ◌++◌, Option, None, Some, Ok, Err, All, refl, ap, sym, subst, ◌∙◌, append-nil}
+use Rattle.std.specs.Io.KnownBytes.{Appends}
+use Rattle.line_base.specs.declared.edge.Edge.{Edge}
+use Rattle.line_base.specs.declared.faults.LineFault.{LineFault}
+use Rattle.edge_trace.specs.Limits.{edges_of, whole_edges_of, fault_of, whole_fault_of, answers_of, whole_answers_of, line_number_of}
+use Rattle.edge_trace.proofs.Times.{whole_edges-in_range}
+use Rattle.edge_command.proofs.EdgeLists.{whole-fault}
+use Rattle.edge_command.specs.Channels.{text_so_far}
+use Rattle.edge_command.specs.Writes.{GrowsAlong, GrowsTowards}
+use Rattle.edge_command.proofs.Growths.{grows-nothing, appends-nothing}
+use Rattle.edge_command.proofs.Answers.{whole-sound, whole_edges-more}
+use Rattle.edge_command.proofs.TakeBytes.{on_right}
+
+-- the last line is a row with an edge
+pub last_row-edges : (bytes : List ℕ) (row : List Edge) → whole_answers_of bytes ≡ answers_of bytes ++ Ok row ∷ [] → whole_edges_of bytes ≡ edges_of bytes ++ row
+last_row-edges bytes row grows = whole_edges-more bytes (Ok row ∷ []) grows ∙ ap (λ es. edges_of bytes ++ es) (append-nil row)
+
+-- the last line adds no edge
+pub no_row-edges : (bytes : List ℕ) → whole_answers_of bytes ≡ answers_of bytes ++ [] → whole_edges_of bytes ≡ edges_of bytes
+no_row-edges bytes grows = whole_edges-more bytes [] grows ∙ append-nil (edges_of bytes)
+
+-- the last line adds nothing
+pub no_row-put : (line : ℕ) (got : Option (List ℕ)) (bytes : List ℕ) → fault_of bytes ≡ None → whole_answers_of bytes ≡ answers_of bytes ++ []
+    → (whole_fault_of bytes ≡ None) × GrowsAlong got got (text_so_far line (edges_of bytes)) (text_so_far line (whole_edges_of bytes))
+no_row-put line got bytes sound grows = (
+  whole-sound bytes [] sound grows refl,
+  subst (λ (es : List Edge). GrowsAlong got got (text_so_far line (edges_of bytes)) (text_so_far line es)) (sym (no_row-edges bytes grows)) (grows-nothing got (text_so_far line (edges_of bytes))),
+)
+
+-- the last line's row is put
+pub last_row-put : (line : ℕ) (a b : Option (List ℕ)) (bytes : List ℕ) (row : List Edge) → fault_of bytes ≡ None → whole_answers_of bytes ≡ answers_of bytes ++ Ok row ∷ []
+    → GrowsAlong a b (text_so_far line (edges_of bytes)) (text_so_far line (edges_of bytes ++ row)) → (whole_fault_of bytes ≡ None) × GrowsAlong a b (text_so_far line (edges_of bytes)) (text_so_far line (whole_edges_of bytes))
+last_row-put line a b bytes row sound grows along = (
+  whole-sound bytes (Ok row ∷ []) sound grows refl,
+  subst (λ (es : List Edge). GrowsAlong a b (text_so_far line (edges_of bytes)) (text_so_far line es)) (sym (last_row-edges bytes row grows)) along,
+)
+
+-- the last line's row is put in part
+pub last_row-cut : (line : ℕ) (a b : Option (List ℕ)) (bytes : List ℕ) (row : List Edge) → whole_answers_of bytes ≡ answers_of bytes ++ Ok row ∷ []
+    → GrowsTowards a b (text_so_far line (edges_of bytes)) (text_so_far line (edges_of bytes ++ row)) → GrowsTowards a b (text_so_far line (edges_of bytes)) (text_so_far line (whole_edges_of bytes))
+last_row-cut line a b bytes row grows cut =
+    subst (λ (es : List Edge). GrowsTowards a b (text_so_far line (edges_of bytes)) (text_so_far line es)) (sym (last_row-edges bytes row grows)) cut
+
+-- the last line is refused
+pub last_line-refused : (got : Option (List ℕ)) (bytes : List ℕ) (number : ℕ) (fault : LineFault) → fault_of bytes ≡ None → whole_answers_of bytes ≡ answers_of bytes ++ Err fault ∷ [] → number ≡ line_number_of bytes
+    → (whole_fault_of bytes ≡ Some (number, fault)) × Appends got got []
+last_line-refused got bytes number fault sound grows at = (whole-fault bytes fault sound grows ∙ ap (λ (n : ℕ). Some (n, fault)) (sym at), appends-nothing got)
+
+-- the times of the last line's row are at most 10^15 ns
+pub last_row-in_range : (bytes : List ℕ) (row : List Edge) → whole_answers_of bytes ≡ answers_of bytes ++ Ok row ∷ [] → All (λ edge. edge.time ≤ 10 ^ 15) row
+last_row-in_range bytes row grows =
+    on_right (λ (e : Edge). e.time ≤ 10 ^ 15) (edges_of bytes) row (subst (λ (es : List Edge). All (λ e. e.time ≤ 10 ^ 15) es) (last_row-edges bytes row grows) (whole_edges-in_range bytes))

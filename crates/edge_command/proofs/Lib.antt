@@ -1,0 +1,11 @@
+pub mod OneMore
+pub mod Growths
+pub mod Fronts
+pub mod PutRows
+pub mod Answers
+pub mod EdgeLists
+pub mod TakeBytes
+pub mod Blocks
+pub mod Ends
+pub mod LastLines
+pub mod Pulls

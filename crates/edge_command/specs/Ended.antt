@@ -1,0 +1,43 @@
+-- How a run over a source's bytes ended; this project's own.
+use Rattle.std.specs.Prelude.{◌≡◌, ℕ, ◌*◌, ◌≤◌, true, false, List, [], ◌++◌, length, Option, None, Some}
+use Rattle.std.specs.Io.KnownBytes.{Appends, Consumes}
+use Rattle.line_base.specs.Streams.{AppendsFront}
+use Rattle.line_base.specs.declared.reason.Reason.{Reason}
+use Rattle.line_base.specs.declared.reason.Reason.TheVariants as reason
+use Rattle.edge_trace.specs.Limits.{edges_of, fault_of, whole_edges_of, whole_fault_of}
+use Rattle.edge_command.specs.declared.run.Run.{Run}
+use Rattle.edge_command.specs.Channels.{text_so_far, whole_text, text_of, is_marked}
+use Rattle.edge_command.specs.Runs.{Reads}
+
+-- how `decode` of the channel on a line ends on these bytes, by its reason: what is left of them, and what the output has grown by
+unfoldable pub Ended : ℕ → Reason → List ℕ → Option (List ℕ) → Option (List ℕ) → Option (List ℕ) → Type 0
+-- all was read, the edge list has no fault, no rule was violated, and the whole text was written
+Ended line reason.Clean bytes left' got got' =
+    (left' ≡ Some []) × (whole_fault_of bytes ≡ None) × (is_marked line (whole_edges_of bytes) ≡ false) × Appends got got' (whole_text line (whole_edges_of bytes))
+-- the same, and a rule was violated
+Ended line reason.Marked bytes left' got got' =
+    (left' ≡ Some []) × (whole_fault_of bytes ≡ None) × (is_marked line (whole_edges_of bytes) ≡ true) × Appends got got' (whole_text line (whole_edges_of bytes))
+-- the edge list has this fault at this line, and the text of the lines before it was written
+Ended line (reason.Input number fault) bytes left' got got' = (whole_fault_of bytes ≡ Some (number, fault)) × Appends got got' (text_so_far line (edges_of bytes))
+-- the bytes that were taken have no fault, and the text of their whole lines was written
+Ended line reason.ReadFault bytes left' got got' =
+    (taken : List ℕ) × (rest : List ℕ) × (bytes ≡ taken ++ rest) × (left' ≡ Some rest) × (fault_of taken ≡ None) × Appends got got' (text_so_far line (edges_of taken))
+-- a front of the text of the input was written
+Ended line (reason.WriteFault None) bytes left' got got' = AppendsFront got got' (text_of line bytes)
+-- nothing was read or written
+Ended line reason.OutOfMemory bytes left' got got' = (left' ≡ Some bytes) × Appends got got' []
+-- no lane is written to, and the words were accepted
+Ended line (reason.WriteFault (Some lane)) bytes left' got got' = ⊥
+Ended line (reason.Words place fault) bytes left' got got' = ⊥
+
+-- how far a run has come after so many pulls that gave bytes
+pub record PulledSoFar (line pulls : ℕ) (run : Run) (left left' got got' : Option (List ℕ)) (faults faults' puts puts' : ℕ) : Type 0 where
+  pub taken : List ℕ
+  pub line_is : run.channel.line ≡ line
+  pub reads : Reads run taken
+  pub at_least : pulls ≤ length taken
+  pub number : run.channel.number ≤ 65536 * pulls
+  pub consumed : Consumes left left' taken
+  pub written : Appends got got' (text_so_far line (edges_of taken))
+  pub source_later : faults ≤ faults'
+  pub sink_later : puts ≤ puts'

@@ -1,0 +1,47 @@
+-- How far a run has come; this project's own.
+use Rattle.std.specs.Prelude.{◌≡◌, ℕ, ◌+◌, ◌*◌, ◌≤◌, List, ◌++◌, length, Option, None, Some, Result, Err}
+use Rattle.line_base.specs.declared.reason.Reason.{Reason}
+use Rattle.line_base.specs.declared.reason.Reason.TheVariants as reason
+use Rattle.line_base.specs.Causes.{Rose}
+use Rattle.edge_trace.specs.Limits.{edges_of, fault_of}
+use Rattle.edge_trace.specs.Readers.{StandsFor}
+use Rattle.edge_command.specs.declared.run.Run.{Run}
+use Rattle.edge_command.specs.Channels.{text_so_far}
+use Rattle.edge_command.specs.Decoders.{Follows}
+use Rattle.edge_command.specs.Writes.{GrowsAlong, GrowsTowards}
+
+-- a run has taken these bytes, which have no fault: its edge reader stands for them, and its channel has taken their edges
+pub record Reads (run : Run) (bytes : List ℕ) : Type 0 where
+  pub lines : StandsFor run.lines bytes
+  pub sound : fault_of bytes ≡ None
+  pub follows : Follows run.channel (edges_of bytes)
+
+-- what a run that stopped at its bytes has written since earlier ones, by its reason: at a line that is refused, the text so far; at a put that failed, a front of it
+abbrev pub Stopped : ℕ → Reason → Option (List ℕ) → Option (List ℕ) → List ℕ → List ℕ → Type 0
+Stopped line (reason.Input number fault) got got' earlier bytes =
+    (fault_of bytes ≡ Some (number, fault)) × GrowsAlong got got' (text_so_far line (edges_of earlier)) (text_so_far line (edges_of bytes))
+Stopped line (reason.WriteFault None) got got' earlier bytes = GrowsTowards got got' (text_so_far line (edges_of earlier)) (text_so_far line (edges_of bytes))
+Stopped line _ got got' earlier bytes = ⊥
+
+-- a run took bytes up to a later list of bytes, and what it wrote went along
+pub record TookBytes (old new : Run) (got got' : Option (List ℕ)) (earlier bytes : List ℕ) : Type 0 where
+  pub reads : Reads new bytes
+  pub grows : GrowsAlong got got' (text_so_far old.channel.line (edges_of earlier)) (text_so_far old.channel.line (edges_of bytes))
+
+-- the sink's faults never fell, and where a put's fault is the reason, it was the output's, and they rose
+pub record IsStopOf (faults faults' : ℕ) (result : Result (Unit {0}) Reason) : Type 0 where
+  pub later : faults ≤ faults'
+  pub put : (lane : Option ℕ) → result ≡ Err (reason.WriteFault lane) → (lane ≡ None) × Rose faults faults'
+
+-- these bytes of a block were taken
+pub record BlockSoFar (old new : Run) (got got' : Option (List ℕ)) (faults faults' : ℕ) (taken : List ℕ) : Type 0 where
+  pub line : new.channel.line ≡ old.channel.line
+  pub number : new.channel.number ≤ old.channel.number + 16 * length taken
+  pub took : (bytes : List ℕ) → Reads old bytes → TookBytes old new got got' bytes (bytes ++ taken)
+  pub later : faults ≤ faults'
+
+-- a front of a block was taken, and this is the rest of it
+pub record BlockBefore (old new : Run) (got got' : Option (List ℕ)) (faults faults' : ℕ) (block rest : List ℕ) : Type 0 where
+  pub taken : List ℕ
+  pub so_far : BlockSoFar old new got got' faults faults' taken
+  pub parts : taken ++ rest ≡ block
