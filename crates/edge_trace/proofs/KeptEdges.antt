@@ -2,9 +2,8 @@
 use Rattle.std.proofs.Common.{◌≡◌, ℕ, zero, suc, ◌+◌, ◌<◌, ◌≤◌, ◌==◌, Bool, cond, Option, None, Some, List, [], ◌∷◌, ◌++◌, length, set, get_or, replicate, filter, refl, sym, ◌∙◌, ap, subst, arith}
 use Rattle.std.specs.Option.{option_map, option_to_list}
 use Rattle.std.proofs.lemmas.Bool.{eq-eqb, ne_eqb}
-use Rattle.std.proofs.lemmas.List.{length_push, length-set}
 use Rattle.line_base.specs.declared.edge.Edge.{Edge}
-use Rattle.edge_trace.specs.RowEdges.{edges_from, AreKept, AreBelow}
+use Rattle.edge_trace.specs.RowEdges.{edges_from, AreBelow}
 
 -- no line has an edge
 pub no_edges : (time : ℕ) → edges_from 0 time (replicate 16 None) ≡ []
@@ -39,18 +38,6 @@ put_level base told time line (suc k) level (None ∷ levels) e within below = p
 put_level base told time line (suc k) level (Some old ∷ levels) e within below =
     ap (λ es. record { line = base; time = time; level = old } ∷ es) (put_level (base + 1) told time line k level levels (omega arith) (omega arith) below.2)
     ∙ ap (λ (t : ℕ). record { line = base; time = t; level = old } ∷ (edges_from (base + 1) told levels ++ record { line = line; time = time; level = level } ∷ [])) (sym below.1)
-
--- the same, as a row keeps it
-pub one_more_edge : (told time line count : ℕ) (level : Bool) (levels : List (Option Bool)) → AreKept levels count (edges_from 0 told levels) → line < 16 → AreBelow line time (edges_from 0 told levels) → AreKept (set levels line (Some level)) (count + 1) (edges_from 0 time (set levels line (Some level)))
-one_more_edge told time line count level levels kept within below =
-    let wide = kept.wide in
-    let counted = kept.counted in
-    let all : edges_from 0 time (set levels line (Some level)) ≡ edges_from 0 told levels ++ record { line = line; time = time; level = level } ∷ [] = put_level 0 told time line line level levels (omega arith) (omega arith) below in
-    let longer = length_push (edges_from 0 told levels) (record { line = line; time = time; level = level }) in
-    record {
-      wide = length-set levels line (Some level) ∙ wide;
-      counted = (let l = ap length all in omega arith);
-    }
 
 -- the edge of a line
 none_on : (base time line : ℕ) (levels : List (Option Bool)) → line < base → filter (λ edge. edge.line == line) (edges_from base time levels) ≡ []

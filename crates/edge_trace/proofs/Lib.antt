@@ -1,6 +1,7 @@
 pub mod Numbers
 pub mod LineEnds
 pub mod KeptEdges
+pub mod ToldLevels
 pub mod Judging
 pub mod PlainRows
 pub mod FirstLines

@@ -1,5 +1,5 @@
 -- How the edges of a row are kept, which are at one time; this project's own.
-use Rattle.std.specs.Prelude.{◌≡◌, ℕ, ◌+◌, ◌<◌, Bool, Option, None, Some, List, [], ◌∷◌, length}
+use Rattle.std.specs.Prelude.{◌≡◌, ℕ, zero, suc, ◌+◌, ◌/◌, ◌%◌, ◌<◌, Bool, true, false, Option, None, Some, List, [], ◌∷◌}
 use Rattle.line_base.specs.declared.edge.Edge.{Edge}
 
 -- the edges at this time of the lines from this one on, each of which has its new level here, or no edge
@@ -8,10 +8,16 @@ edges_from line time [] = []
 edges_from line time (None ∷ levels) = edges_from (line + 1) time levels
 edges_from line time (Some level ∷ levels) = record { line = line; time = time; level = level } ∷ edges_from (line + 1) time levels
 
--- sixteen lines are kept, and how many edges there are
-pub record AreKept (levels : List (Option Bool)) (count : ℕ) (edges : List Edge) : Type 0 where
-  pub wide : length levels ≡ 16
-  pub counted : count ≡ length edges
+-- what a digit says of a line: it has no edge, or this is its new level
+abbrev pub level_told : ℕ → Option Bool
+level_told zero = None
+level_told (suc zero) = Some false
+level_told (suc (suc digit)) = Some true
+
+-- what a number says of so many lines, by one digit in base 4 for each, the lowest for the first line
+unfoldable pub levels_told : ℕ → ℕ → List (Option Bool)
+levels_told zero number = []
+levels_told (suc lines) number = level_told (number % 4) ∷ levels_told lines (number / 4)
 
 -- these edges are of lines below this one, at this time
 unfoldable pub AreBelow : ℕ → ℕ → List Edge → Type 0

@@ -1,7 +1,7 @@
 //! What a line of input gives: the edges of its row.
-ghost use Rattle.std.specs.Prelude.{◌≡◌, ℕ, ◌+◌, ◌<◌, ◌≤◌, ◌==◌, List, [], ◌∷◌, ◌++◌, length, filter};
+ghost use Rattle.std.specs.Prelude.{◌≡◌, ℕ, ◌+◌, ◌<◌, ◌≤◌, ◌==◌, List, [], ◌∷◌, ◌++◌, length, filter, Some};
 ghost use Rattle.std.specs.Option.{option_to_list};
-ghost use Rattle.edge_trace.specs.RowEdges.{AreBelow};
+ghost use Rattle.edge_trace.specs.RowEdges.{AreBelow, level_told};
 
 use line_base::Edge;
 use std::marker::Model;
@@ -11,22 +11,27 @@ use std::marker::Model;
 pub struct RowEdges {
     /// The time of the edges in ns, if there are any.
     time: u64,
-    /// The new level of each line that has an edge.
-    levels: [Option<bool>; 16],
-    /// How many edges there are.
-    count: usize,
+    /// One digit in base 4 for each line, the lowest for line 0: 0 for no edge, 1 for low, 2 for high.
+    levels: u32,
 }
 
 impl Model for RowEdges {
     ghost use Rattle.std.specs.Prelude.{List};
     ghost use Rattle.line_base.specs.declared.edge.Edge.{Edge};
-    ghost use Rattle.edge_trace.specs.RowEdges.{AreKept, edges_from};
+    ghost use Rattle.edge_trace.specs.RowEdges.{edges_from, levels_told};
 
     ghost Value = { List Edge };
 
-    ghost view = { λ row. edges_from 0 row.time row.levels };
+    ghost view = { λ row. edges_from 0 row.time (levels_told 16 row.levels) };
+}
 
-    ghost invariant = { λ row. AreKept row.levels row.count (edges_from 0 row.time row.levels) };
+/// The digit of a line that has an edge to this level.
+#[inline]
+fn digit_of(level: bool) -> u32
+    ensures told { level_told result ≡ Some level }
+    ensures small { result < 4 }
+{
+    if level { 2 } else { 1 }
 }
 
 impl RowEdges {
@@ -35,11 +40,7 @@ impl RowEdges {
     pub fn new() -> RowEdges
         ensures { result ≡ [] }
     {
-        RowEdges {
-            time: 0,
-            levels: [None; 16],
-            count: 0,
-        }
+        RowEdges { time: 0, levels: 0 }
     }
 
     /// Whether there are no edges.
@@ -48,7 +49,7 @@ impl RowEdges {
         ensures value { result ≡ (length self.now == 0) }
         ensures few { length self.now ≤ 16 }
     {
-        self.count == 0
+        self.levels == 0
     }
 
     /// How many edges there are.
@@ -57,7 +58,15 @@ impl RowEdges {
         ensures value { result ≡ length self.now }
         ensures few { result ≤ 16 }
     {
-        self.count
+        let mut count = 0;
+        let mut rest = self.levels;
+        'lines: for _line in 0..16usize {
+            if rest % 4 > 0 {
+                count += 1;
+            }
+            rest /= 4;
+        }
+        count
     }
 
     /// The edge of a line, if it has one.
@@ -69,10 +78,12 @@ impl RowEdges {
         if line > 15 {
             return None;
         }
-        match self.levels[usize::from(line)] {
-            None => None,
-            Some(level) => Some(Edge { line, time, level }),
+        let digit = (self.levels >> (2 * u32::from(line))) % 4;
+        if digit == 0 {
+            return None;
         }
+        let level = digit > 1;
+        Some(Edge { line, time, level })
     }
 
     /// Adds an edge at the end. Those before it are of lower lines and have its time.
@@ -83,8 +94,7 @@ impl RowEdges {
         ensures { self.new ≡ self.old ++ edge ∷ [] }
     {
         self.time = edge.time;
-        self.levels[usize::from(edge.line)] = Some(edge.level);
-        self.count += 1;
+        self.levels += digit_of(edge.level) << (2 * u32::from(edge.line));
     }
 }
 
