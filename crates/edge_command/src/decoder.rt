@@ -1,5 +1,8 @@
 //! One channel: edges in, report lines out.
 ghost use Rattle.std.specs.Prelude.{◌≡◌, ◌+◌, ◌-◌, ◌^◌, ◌<◌, ◌≤◌, ◌++◌, [], ◌∷◌, List, ℕ, Option, None, count_by, length, All, OnOk, OnErr};
+ghost use Rattle.line_base.specs.Causes.{HasCause};
+ghost use Rattle.line_base.specs.Streams.{PutAppends};
+ghost use Rattle.edge_command.specs.Texts.{line_of};
 
 use crate::report::{LINE_ROOM, TOTAL_ROOM, Tally, write_step, write_total};
 use arrayvec::ArrayString;
@@ -21,6 +24,17 @@ pub struct Decoder {
     /// How many rules were violated.
     pub bad: u64,
     ghost counted: { good + bad ≤ number },
+}
+
+/// Puts the line of what an edge ended.
+#[inline(never)]
+fn put_step<K: Sink>(step: &SentStep, out: &mut K) -> Result<(), Failed>
+    ensures puts { PutAppends (K.got out.old) (K.got out.new) result (line_of 0 step.now) }
+    ensures cause { HasCause (K.faults out.old) (K.faults out.new) result }
+{
+    let mut text = ArrayString::<LINE_ROOM>::new();
+    write_step(0, step, &mut text);
+    out.put(text.as_str().as_bytes())
 }
 
 impl Decoder {
@@ -103,9 +117,7 @@ impl Decoder {
         if matches!(step, SentStep::Nothing) {
             return Ok(());
         }
-        let mut text = ArrayString::<LINE_ROOM>::new();
-        write_step(0, &step, &mut text);
-        out.put(text.as_str().as_bytes())
+        put_step(&step, out)
     }
 
     /// Takes the edges of a row, and puts the lines of what they end.
