@@ -36,7 +36,7 @@ impl Run {
     }
 
     /// Takes the next byte, and puts the lines of what it ends.
-    #[inline(never)]
+    #[inline(always)]
     pub fn take_byte<K: Sink>(&mut self, byte: u8, out: &mut K) -> Result<(), Reason>
         requires room { self.old.channel.number + 16 < 2 ^ 64 }
         requires reads { (bytes : List ℕ) × Reads self.old bytes }

@@ -7,11 +7,9 @@ use Rattle.std.specs.List.{list_all}
 use Rattle.line_base.specs.declared.edge.Edge.{Edge}
 use Rattle.line_base.specs.declared.faults.LineFault.TheVariants.{TooLarge}
 use Rattle.edge_trace.specs.Fields.{fields, without_blanks, cut_at, is_digit, number_after, number_in, level_in}
-use Rattle.edge_trace.specs.Rows.{◌>>=◌, check, Narrow, unit_of, line_field, narrow_row}
-use Rattle.edge_trace.specs.Readings.{form_of, stamp_time, time_behind, IsStamped}
+use Rattle.edge_trace.specs.Rows.{◌>>=◌, check, Narrow, line_field, narrow_row}
+use Rattle.edge_trace.specs.Readings.{stamp_time, time_behind, IsStamped}
 use Rattle.edge_trace.specs.PlainRows.{BeginsWithNumber, SpellsEdge}
-use Rattle.edge_trace.specs.declared.form.Form as code
-use Rattle.edge_trace.specs.declared.form.Form.TheVariants as variant
 use Rattle.edge_trace.proofs.LineEnds.{CutSoFar, cut_none, cut_more, cut_found}
 use Rattle.edge_trace.proofs.Numbers.{number_after_append, digit_true}
 use Rattle.edge_trace.proofs.Judging.{all_three, stamped, narrow_time}
@@ -46,13 +44,13 @@ one_more_digit text i number so_far within low high =
       small = (let small = so_far.small in omega arith);
     }
 
--- a byte that is at most 9 above `0`, at 32 bits, is a digit
+-- a byte that is at most 9 above `0`, at 64 bits, is a digit
 pub record IsDigitOf (byte value : ℕ) : Type 0 where
   pub low : 48 ≤ byte
   pub high : byte ≤ 57
   pub value_is : value ≡ byte - 48
 
-pub wrapped_digit : (byte value : ℕ) → byte < 256 → value ≡ (byte + 4294967248) % 4294967296 → value ≤ 9 → IsDigitOf byte value
+pub wrapped_digit : (byte value : ℕ) → byte < 256 → value ≡ (byte + 18446744073709551568) % 18446744073709551616 → value ≤ 9 → IsDigitOf byte value
 wrapped_digit byte value small e digit = record {
   low = omega arith;
   high = omega arith;
@@ -136,16 +134,10 @@ time_is_in_range time le =
 line_is_in_range : (field : List ℕ) (line : ℕ) → number_in field ≡ Some line → line ≤ 15 → Ok line ≡ line_field field
 line_is_in_range field line e le = sym (rw (e, le-leb line 15 le) refl)
 
-narrow_stamped : (before : ℕ) (content : List ℕ) (edge : Edge) → SpellsEdge content edge → before ≤ edge.time → edge.time ≤ 10 ^ 15 → edge.line ≤ 15
+-- a plain row in ns without a fault
+pub plain_stamped : (before : ℕ) (content : List ℕ) (edge : Edge) → SpellsEdge content edge → before ≤ edge.time → edge.time ≤ 10 ^ 15 → edge.line ≤ 15
     → IsStamped (stamp_time 1 before) (narrow_row Narrow (stamp_time 1 before) before (fields content)) edge.time (edge ∷ [])
-narrow_stamped before content edge spells later in_range line =
+plain_stamped before content edge spells later in_range line =
     stamped Narrow (stamp_time 1 before) before content spells.time spells.line spells.level edge.time edge.line edge.level spells.parts
     (time_is_in_range edge.time in_range ∙ ap (time_behind 0 1) (sym spells.time_is) ∙ narrow_time before spells.time)
     (line_is_in_range spells.line edge.line spells.line_is line) (sym spells.level_is) later
-
--- a plain row in ns without a fault
-pub plain_stamped : (form : code.Form) (before : ℕ) (content : List ℕ) (edge : Edge) → form ≡ variant.Narrow → SpellsEdge content edge → before ≤ edge.time → edge.time ≤ 10 ^ 15 → edge.line ≤ 15
-    → IsStamped (stamp_time (unit_of (form_of form)) before) (narrow_row (form_of form) (stamp_time (unit_of (form_of form)) before) before (fields content)) edge.time (edge ∷ [])
-plain_stamped form before content edge e spells later in_range line =
-    subst (λ (f : code.Form). IsStamped (stamp_time (unit_of (form_of f)) before) (narrow_row (form_of f) (stamp_time (unit_of (form_of f)) before) before (fields content)) edge.time (edge ∷ [])) (sym e)
-    (narrow_stamped before content edge spells later in_range line)

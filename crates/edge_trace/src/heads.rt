@@ -4,7 +4,7 @@ ghost use Rattle.edge_trace.specs.EdgeLists.{Standing, narrow_form, header_read,
 ghost use Rattle.edge_trace.specs.Readings.{form_of, IsForm, IsUnit, HasLevels, HasRead, IsAt, is_in_range};
 
 use crate::form::{Form, header_columns, skipped, version_unit};
-use crate::lines::read_row;
+use crate::lines::{read_plain, read_row};
 use crate::row::RowEdges;
 use crate::state::State;
 use crate::texts::behind;
@@ -70,9 +70,36 @@ fn read_forming(
     }
 }
 
-/// Reads a line without its CR, and adds its edges.
+/// Reads a line without its CR, and adds its edges. Nearly all lines are plain rows, so these are read at
+/// once.
 #[inline(always)]
 pub(crate) fn read_content(
+    state: State,
+    content: &[u8],
+    levels: &mut [Option<bool>],
+    edges: &mut RowEdges,
+) -> Result<State, LineFault>
+    requires in_range { IsTrue (is_in_range (Some state)) }
+    requires long { length levels.old ≡ 16 }
+    requires empty { edges.old ≡ [] }
+    ensures long { length levels.new ≡ 16 }
+    ensures in_range { IfOk result (λ next. IsTrue (is_in_range (Some next))) }
+    ensures read { (standing : Standing) → IsAt state levels.old standing →
+        MatchResult result (λ next. HasRead next levels.new edges.new (content_read standing content.now)) (λ fault. content_read standing content.now ≡ Err fault) }
+{
+    if let State::Rows(Form::Narrow, before) = state {
+        if !skipped(content) {
+            if let Some(time) = read_plain(before, content, levels, edges) {
+                return Ok(State::Rows(Form::Narrow, time));
+            }
+        }
+    }
+    read_line(state, content, levels, edges)
+}
+
+/// Reads any line without its CR, and adds its edges.
+#[inline(never)]
+fn read_line(
     state: State,
     content: &[u8],
     levels: &mut [Option<bool>],

@@ -1,13 +1,15 @@
 //! Lines: what each gives behind the lines before it.
-ghost use Rattle.std.specs.Prelude.{◌≡◌, ℕ, ◌≤◌, ◌^◌, ◌==◌, Bool, Option, None, Some, Err, MatchResult, IfOk, IsTrue, List, [], ◌∷◌, length, filter, slice_index_or, if◌then◌else◌};
+ghost use Rattle.std.specs.Prelude.{◌≡◌, ℕ, ◌≤◌, ◌^◌, ◌==◌, Bool, Option, None, Some, Err, MatchResult, IfOk, IfSome, IfNone, IsTrue, List, [], ◌∷◌, length, filter, slice_index_or, if◌then◌else◌};
 ghost use Rattle.line_base.specs.declared.edge.Edge.{Edge as EdgeRecord};
-ghost use Rattle.edge_trace.specs.Rows.{Stamp, Wide, time_of};
+ghost use Rattle.edge_trace.specs.Rows.{Stamp, Narrow, Wide, time_of};
 ghost use Rattle.edge_trace.specs.EdgeLists.{is_new, row_read};
+ghost use Rattle.edge_trace.specs.declared.form.Form.TheVariants as form;
+ghost use Rattle.edge_trace.specs.declared.state.State.TheVariants as state;
 ghost use Rattle.edge_trace.specs.Readings.{form_of, IsForm, HasLevels, HasRead, is_in_range};
 
 use crate::form::Form;
 use crate::row::RowEdges;
-use crate::rows::narrow;
+use crate::rows::{narrow, plain_narrow};
 use crate::state::State;
 use crate::wide::{changes, keep_levels, wide};
 use line_base::{Edge, LineFault};
@@ -56,8 +58,34 @@ fn read_wide(
     }
 }
 
-/// Reads a row of this form, behind a row of a time of `before` ns.
+/// Reads a plain row in ns, behind a row of a time of `before` ns, and answers its time. Any other line is
+/// left as it is.
 #[inline(always)]
+pub(crate) fn read_plain(
+    before: u64,
+    content: &[u8],
+    levels: &mut [Option<bool>],
+    edges: &mut RowEdges,
+) -> Option<u64>
+    requires before { before ≤ 10 ^ 15 }
+    requires long { length levels.old ≡ 16 }
+    requires empty { edges.old ≡ [] }
+    ensures long { length levels.new ≡ 16 }
+    ensures in_range { IfSome result (λ time. time ≤ 10 ^ 15) }
+    ensures read { (stamps : List Stamp) (rows : List EdgeRecord) → before ≡ time_of Narrow stamps → HasLevels levels.old rows →
+        IfSome result (λ time. HasRead (state.Rows form.Narrow time) levels.new edges.new (row_read Narrow stamps rows content.now)) }
+    ensures left { IfNone result ((levels.new ≡ levels.old) × (edges.new ≡ edges.old)) }
+{
+    match plain_narrow(before, content) {
+        None => None,
+        Some(edge) => {
+            keep_level(edge, levels, edges);
+            Some(edge.time)
+        }
+    }
+}
+
+/// Reads a row of this form, behind a row of a time of `before` ns.
 pub(crate) fn read_row(
     form: Form,
     before: u64,

@@ -10,7 +10,7 @@ use line_base::Edge;
 const NUMBER_ROOM: usize = 17;
 
 /// The digit `0`. Any byte that is no digit is more than 9 above it, or wraps to more.
-const ZERO: u32 = 48;
+const ZERO: u64 = 48;
 
 /// The number of the digits, at most 16, before the first comma of a text, and what stands behind it.
 #[inline(always)]
@@ -20,14 +20,14 @@ fn number_before_comma(text: &[u8]) -> Option<(u64, &[u8])>
     let front = &text[..NUMBER_ROOM.min(text.len())];
     let mut number = 0u64;
     for (i, byte) in front.iter().enumerate() {
-        let value = u32::from(*byte).wrapping_sub(ZERO);
+        let value = u64::from(*byte).wrapping_sub(ZERO);
         if value > 9 {
             if *byte == b',' && i > 0 {
                 return Some((number, &text[i + 1..]));
             }
             return None;
         }
-        number = number * 10 + u64::from(value);
+        number = number * 10 + value;
     }
     None
 }

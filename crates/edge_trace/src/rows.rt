@@ -114,29 +114,24 @@ fn three_fields(content: &[u8]) -> Option<(&[u8], &[u8], &[u8])>
     }
 }
 
-/// What a narrow row says, behind a row of a time of `before` ns.
+/// What a plain row in ns says, behind a row of a time of `before` ns. It has no fault.
 #[inline(always)]
-pub(crate) fn narrow(form: Form, before: u64, content: &[u8]) -> Result<Edge, LineFault>
+pub(crate) fn plain_narrow(before: u64, content: &[u8]) -> Option<Edge>
     requires before { before ≤ 10 ^ 15 }
-    requires form { IsForm form }
-    ensures good { IfOk result (λ edge. IsStamped (stamp_time (unit_of (form_of form)) before) (narrow_row (form_of form) (stamp_time (unit_of (form_of form)) before) before (fields content.now)) edge.time (edge ∷ [])) }
-    ensures fault { IfErr result (λ fault. narrow_row (form_of form) (stamp_time (unit_of (form_of form)) before) before (fields content.now) ≡ Err fault) }
-    ensures line { IfOk result (λ edge. edge.line ≤ 15) }
-    ensures time { IfOk result (λ edge. edge.time ≤ 10 ^ 15) }
+    ensures good { IfSome result (λ edge. IsStamped (stamp_time 1 before) (narrow_row row.Narrow (stamp_time 1 before) before (fields content.now)) edge.time (edge ∷ [])) }
+    ensures line { IfSome result (λ edge. edge.line ≤ 15) }
+    ensures time { IfSome result (λ edge. edge.time ≤ 10 ^ 15) }
 {
-    if let Form::Narrow = form {
-        if let Some(edge) = plain_row(content) {
-            if edge.time >= before && edge.time <= MAX_TIME {
-                return Ok(edge);
-            }
+    if let Some(edge) = plain_row(content) {
+        if edge.time >= before && edge.time <= MAX_TIME {
+            return Some(edge);
         }
     }
-    narrow_fields(form, before, content)
+    None
 }
 
-/// The same, judged field by field.
-#[inline(never)]
-fn narrow_fields(form: Form, before: u64, content: &[u8]) -> Result<Edge, LineFault>
+/// What a narrow row says, behind a row of a time of `before` ns.
+pub(crate) fn narrow(form: Form, before: u64, content: &[u8]) -> Result<Edge, LineFault>
     requires before { before ≤ 10 ^ 15 }
     requires form { IsForm form }
     ensures good { IfOk result (λ edge. IsStamped (stamp_time (unit_of (form_of form)) before) (narrow_row (form_of form) (stamp_time (unit_of (form_of form)) before) before (fields content.now)) edge.time (edge ∷ [])) }

@@ -28,7 +28,6 @@ overflow_add-number c =
     let most = c.min.ensures in
     let long : length (take c.min.result text) ≡ c.min.result = length-take-le c.min.result text (omega arith) in
     let fits = digit_fits text c.loop-i.i c.loop-i.number c.loop-i.invariant (omega (arith, long, c.loop-i-test.true)) in
-    let digit = c.from.ensures in
     let high = c.if-value-gt9.false in
     omega arith
 
@@ -40,6 +39,6 @@ loop-i-preserved c =
     let long : length (take c.min.result text) ≡ c.min.result = length-take-le c.min.result text (omega arith) in
     let e : get_or (take c.min.result text) i 0 ≡ get_or text i 0 = get_or-take c.min.result text i 0 (omega (arith, long, c.loop-i-test.true)) in
     let byte : c.from-value.result ≡ get_or text i 0 = c.from-value.ensures ∙ e in
-    let digit = wrapped_digit (get_or text i 0) c.from.result (omega (arith, c.type_inv.text i)) (c.from.ensures ∙ ap (λ (n : ℕ). (n + 4294967248) % 4294967296) byte) (let same = c.from.ensures in let high = c.if-value-gt9.false in omega arith) in
+    let digit = wrapped_digit (get_or text i 0) ((c.from-value.result + 18446744073709551568) % 18446744073709551616) (omega (arith, c.type_inv.text i)) (ap (λ (n : ℕ). (n + 18446744073709551568) % 18446744073709551616) byte) c.if-value-gt9.false in
     subst (λ (value : ℕ). NumberSoFar text (i + 1) (c.loop-i.number * 10 + value)) (sym digit.value_is)
     (one_more_digit text i c.loop-i.number c.loop-i.invariant (omega (arith, long, c.loop-i-test.true)) digit.low digit.high)

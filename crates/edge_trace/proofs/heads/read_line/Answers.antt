@@ -4,7 +4,7 @@ use Rattle.line_base.specs.declared.faults.LineFault.{LineFault}
 use Rattle.edge_trace.specs.EdgeLists.{Read}
 use Rattle.edge_trace.specs.Readings.{HasRead}
 use Rattle.edge_trace.proofs.Reading.{later_row}
-use Rattle.edge_trace.proofs.heads.read_content.Goals as goal
+use Rattle.edge_trace.proofs.heads.read_line.Goals as goal
 
 pub returns-else-skipped-3-clause-read : goal.returns-else-skipped-3-clause-read
 returns-else-skipped-3-clause-read c = λ standing at.
