@@ -67,7 +67,6 @@ pub(crate) fn read_plain(
     levels: &mut [Option<bool>],
     edges: &mut RowEdges,
 ) -> Option<u64>
-    requires before { before ≤ 10 ^ 15 }
     requires long { length levels.old ≡ 16 }
     requires empty { edges.old ≡ [] }
     ensures long { length levels.new ≡ 16 }

@@ -117,7 +117,6 @@ fn three_fields(content: &[u8]) -> Option<(&[u8], &[u8], &[u8])>
 /// What a plain row in ns says, behind a row of a time of `before` ns. It has no fault.
 #[inline(always)]
 pub(crate) fn plain_narrow(before: u64, content: &[u8]) -> Option<Edge>
-    requires before { before ≤ 10 ^ 15 }
     ensures good { IfSome result (λ edge. IsStamped (stamp_time 1 before) (narrow_row row.Narrow (stamp_time 1 before) before (fields content.now)) edge.time (edge ∷ [])) }
     ensures line { IfSome result (λ edge. edge.line ≤ 15) }
     ensures time { IfSome result (λ edge. edge.time ≤ 10 ^ 15) }
