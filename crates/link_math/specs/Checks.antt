@@ -17,3 +17,7 @@ crc4_legacy_of nibbles = crc4_remainder (seeded nibbles)
 -- the recommended CRC nibble of these nibbles, the first sent first: the bits 0000 follow them
 unfoldable pub crc4_of : List ℕ → ℕ
 crc4_of nibbles = crc4_remainder (seeded nibbles ++ (false ∷ false ∷ false ∷ false ∷ []))
+
+-- the 6-bit CRC of an enhanced serial message's bits, the first sent first: the remainder of the bits 010101, these bits and the bits 000000 by the polynomial x⁶ + x⁴ + x³ + 1
+unfoldable pub crc6_of : List Bool → ℕ
+crc6_of bits = number_of (remainder (true ∷ false ∷ true ∷ true ∷ false ∷ false ∷ true ∷ []) ((false ∷ true ∷ false ∷ true ∷ false ∷ true ∷ []) ++ bits ++ (false ∷ false ∷ false ∷ false ∷ false ∷ false ∷ [])))

@@ -1,0 +1,4 @@
+pub mod Statuses
+pub mod Readings
+pub mod Short
+pub mod Enhanced

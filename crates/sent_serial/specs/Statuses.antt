@@ -1,0 +1,20 @@
+-- The two bits of a frame's status nibble that carry serial messages (SAE J2716).
+use Rattle.std.specs.Prelude.{ℕ, suc, ◌/◌, ◌%◌, Bool, nat_eq, List, [], ◌∷◌, if◌then◌else◌}
+
+-- bit 3 of a status nibble, the start bit
+abbrev pub start_bit : ℕ → Bool
+start_bit status = nat_eq (status / 8 % 2) 1
+
+-- bit 2 of a status nibble, the value bit
+abbrev pub value_bit : ℕ → Bool
+value_bit status = nat_eq (status / 4 % 2) 1
+
+-- how many statuses whose start bit is clear stand before the first whose start bit is set
+unfoldable pub clear_before : List ℕ → ℕ
+clear_before [] = 0
+clear_before (status ∷ later) = if start_bit status then 0 else suc (clear_before later)
+
+-- how many statuses whose start bit is set stand before the first whose start bit is clear
+unfoldable pub set_before : List ℕ → ℕ
+set_before [] = 0
+set_before (status ∷ later) = if start_bit status then suc (set_before later) else 0
