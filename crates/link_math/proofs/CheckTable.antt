@@ -3,35 +3,25 @@
 --     crc4_remainder-append      what remains of a front stands in its place
 --     shifted_is, shifted_below      a step by the table is a remainder
 --     seed_is, after_another, after_zeros      no nibbles, one more, and the four 0 bits after the last
-use Rattle.std.proofs.Common.{◌≡◌, ℕ, ◌+◌, ◌*◌, ◌/◌, ◌%◌, ◌^◌, ◌<◌, ◌≤◌, Bool, true, false, nat_eq, List, [], ◌∷◌, ◌++◌, length, get_or, take, bit_xor, refl, sym, ◌∙◌, ap, ap₂, subst, arith}
+use Rattle.std.proofs.Common.{◌≡◌, ℕ, ◌+◌, ◌*◌, ◌/◌, ◌%◌, ◌<◌, ◌≤◌, Bool, true, false, nat_eq, List, [], ◌∷◌, ◌++◌, length, get_or, take, bit_xor, refl, sym, ◌∙◌, ap, ap₂, subst, arith}
 use Rattle.std.proofs.lemmas.Bool.{agree_below, agree_below_at, eqb-true}
 use Rattle.std.proofs.lemmas.List.{flat_map_more, length-append, take_more}
 use Rattle.link_math.specs.Checks.{crc4_legacy_of, crc4_of, crc4_remainder, seeded}
 use Rattle.link_math.specs.Division.{bits_of, divided, number_of, remainder, take_away}
 use Rattle.link_math.specs.declared.nibble_check.TheConstants.{SHIFTED}
-use Rattle.link_math.proofs.BitLists.{bits_of-number_of, length-bits_of, number_of-below}
-use Rattle.link_math.proofs.Remainders.{length_remainder, remainder-append}
+use Rattle.link_math.proofs.BitLists.{length-bits_of}
+use Rattle.link_math.proofs.Remainders.{number-append, number-below}
 
 abbrev crc4_divisor : List Bool
 crc4_divisor = true ∷ true ∷ true ∷ false ∷ true ∷ []
 
 pub crc4_remainder-below : (bits : List Bool) → 4 ≤ length bits → crc4_remainder bits < 16
 unfolding crc4_remainder
-crc4_remainder-below bits fits =
-    let left = remainder crc4_divisor bits in
-    subst (λ (n : ℕ). number_of left < 2 ^ n) (length_remainder crc4_divisor bits fits) (number_of-below left)
-
-bits_of-crc4_remainder : (bits : List Bool) → 4 ≤ length bits → bits_of 4 (crc4_remainder bits) ≡ remainder crc4_divisor bits
-unfolding crc4_remainder
-bits_of-crc4_remainder bits fits =
-    let left = remainder crc4_divisor bits in
-    subst (λ (n : ℕ). bits_of n (number_of left) ≡ left) (length_remainder crc4_divisor bits fits) (bits_of-number_of left)
+crc4_remainder-below bits fits = number-below crc4_divisor bits fits
 
 pub crc4_remainder-append : (bits more : List Bool) → 4 ≤ length bits → crc4_remainder (bits_of 4 (crc4_remainder bits) ++ more) ≡ crc4_remainder (bits ++ more)
 unfolding crc4_remainder
-crc4_remainder-append bits more fits =
-    ap (λ left. number_of (remainder crc4_divisor (left ++ more))) (bits_of-crc4_remainder bits fits)
-    ∙ ap number_of (sym (remainder-append crc4_divisor bits more fits))
+crc4_remainder-append bits more fits = number-append crc4_divisor bits more fits
 
 -- ---- the table
 abbrev same_step : ℕ → ℕ → Bool

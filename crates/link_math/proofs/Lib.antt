@@ -1,4 +1,5 @@
 pub mod BitLists
+pub mod CheckRegister
 pub mod CheckTable
 pub mod Nibbles
 pub mod Remainders

@@ -1,9 +1,11 @@
 -- The long division goes from left to right: what is left of a front may stand in its place.
 --     length_remainder     a remainder is one bit shorter than the divisor
 --     remainder-append     the remainder of bits and more is that of the bits' remainder and more
-use Rattle.std.proofs.Common.{◌≡◌, ℕ, zero, suc, ◌+◌, ◌-◌, ◌≤◌, Bool, true, false, List, [], ◌∷◌, ◌++◌, length, refl, sym, ◌∙◌, ap, arith}
+--     number-below, number-append      the same of the remainder's number
+use Rattle.std.proofs.Common.{◌≡◌, ℕ, zero, suc, ◌+◌, ◌-◌, ◌≤◌, Bool, true, false, List, [], ◌∷◌, ◌++◌, length, refl, sym, ◌∙◌, ap, subst, ◌^◌, ◌<◌, arith}
 use Rattle.std.proofs.lemmas.List.{length-append}
-use Rattle.link_math.specs.Division.{after_front, differ, divided, remainder, take_away}
+use Rattle.link_math.specs.Division.{after_front, bits_of, differ, divided, number_of, remainder, take_away}
+use Rattle.link_math.proofs.BitLists.{bits_of-number_of, number_of-below}
 
 length_taken : (divisor bits : List Bool) → length (take_away divisor bits) ≡ length bits
 unfolding take_away
@@ -73,3 +75,19 @@ remainder-append divisor bits more fits =
     ∙ divided-add (length bits - kept) (length more) divisor (bits ++ more)
     ∙ ap (divided (length more) divisor) (divided-append (length bits - kept) divisor bits more (omega arith))
     ∙ ap (λ n. divided n divisor (front ++ more)) (sym rest)
+
+pub number-below : (divisor bits : List Bool) → length divisor - 1 ≤ length bits → number_of (remainder divisor bits) < 2 ^ (length divisor - 1)
+number-below divisor bits fits =
+    let left = remainder divisor bits in
+    subst (λ (n : ℕ). number_of left < 2 ^ n) (length_remainder divisor bits fits) (number_of-below left)
+
+bits_of-number : (divisor bits : List Bool) → length divisor - 1 ≤ length bits → bits_of (length divisor - 1) (number_of (remainder divisor bits)) ≡ remainder divisor bits
+bits_of-number divisor bits fits =
+    let left = remainder divisor bits in
+    subst (λ (n : ℕ). bits_of n (number_of left) ≡ left) (length_remainder divisor bits fits) (bits_of-number_of left)
+
+pub number-append : (divisor bits more : List Bool) → length divisor - 1 ≤ length bits
+    → number_of (remainder divisor (bits_of (length divisor - 1) (number_of (remainder divisor bits)) ++ more)) ≡ number_of (remainder divisor (bits ++ more))
+number-append divisor bits more fits =
+    ap (λ left. number_of (remainder divisor (left ++ more))) (bits_of-number divisor bits fits)
+    ∙ ap number_of (sym (remainder-append divisor bits more fits))

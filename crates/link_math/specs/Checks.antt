@@ -1,4 +1,4 @@
--- The 4-bit CRC of a SENT frame's nibbles (SAE J2716), as the remainder of a long division.
+-- The 4-bit CRC of a SENT frame's nibbles and the 6-bit CRC of an enhanced serial message (SAE J2716), as remainders of a long division.
 use Rattle.std.specs.Prelude.{ℕ, Bool, true, false, List, [], ◌∷◌, ◌++◌, flat_map}
 use Rattle.link_math.specs.Division.{bits_of, number_of, remainder}
 
@@ -18,6 +18,10 @@ crc4_legacy_of nibbles = crc4_remainder (seeded nibbles)
 unfoldable pub crc4_of : List ℕ → ℕ
 crc4_of nibbles = crc4_remainder (seeded nibbles ++ (false ∷ false ∷ false ∷ false ∷ []))
 
--- the 6-bit CRC of an enhanced serial message's bits, the first sent first: the remainder of the bits 010101, these bits and the bits 000000 by the polynomial x⁶ + x⁴ + x³ + 1
+-- the number of the six bits that remain of these bits by the polynomial x⁶ + x⁴ + x³ + 1
+unfoldable pub crc6_remainder : List Bool → ℕ
+crc6_remainder bits = number_of (remainder (true ∷ false ∷ true ∷ true ∷ false ∷ false ∷ true ∷ []) bits)
+
+-- the 6-bit CRC of an enhanced serial message's bits, the first sent first: the bits 010101 stand before them, and the bits 000000 follow them
 unfoldable pub crc6_of : List Bool → ℕ
-crc6_of bits = number_of (remainder (true ∷ false ∷ true ∷ true ∷ false ∷ false ∷ true ∷ []) ((false ∷ true ∷ false ∷ true ∷ false ∷ true ∷ []) ++ bits ++ (false ∷ false ∷ false ∷ false ∷ false ∷ false ∷ [])))
+crc6_of bits = crc6_remainder ((false ∷ true ∷ false ∷ true ∷ false ∷ true ∷ []) ++ bits ++ (false ∷ false ∷ false ∷ false ∷ false ∷ false ∷ []))

@@ -51,3 +51,23 @@ fn the_crc_nibble_is_that_of_the_worked_vectors(rt: HostRuntime) {
         assert_eq!(rt; crc4_legacy(nibbles), legacy, "{nibbles:?}");
     }
 }
+
+/// The bits that these words write, six bits each, from the highest down.
+fn bits_of_words(words: [u8; 4]) -> [bool; 24] {
+    let mut bits = [false; 24];
+    for (place, bit) in bits.iter_mut().enumerate() {
+        *bit = words[place / 6 % 4] >> (5 - place % 6) & 1 == 1;
+    }
+    bits
+}
+
+#[test]
+fn the_crc_of_a_serial_message_is_that_of_the_worked_vectors(rt: HostRuntime) {
+    let cases = [
+        ([0, 0, 0, 0], 0b100110),
+        ([0b000111, 0b010101, 0b101000, 0b100100], 0b010011),
+    ];
+    for (words, expected) in cases {
+        assert_eq!(rt; crc6(&bits_of_words(words)), expected, "{words:?}");
+    }
+}
