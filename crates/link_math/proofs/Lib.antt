@@ -1,3 +1,4 @@
+pub mod BitFields
 pub mod BitLists
 pub mod CheckRegister
 pub mod CheckTable

@@ -2,3 +2,5 @@ pub mod Statuses
 pub mod Readings
 pub mod Short
 pub mod Enhanced
+pub mod Kept
+pub mod Readers

@@ -1,6 +1,7 @@
 -- How a list of statuses is read from its front; this project's own.
-use Rattle.std.specs.Prelude.{ℕ, zero, suc, List, [], ◌∷◌}
+use Rattle.std.specs.Prelude.{◌≡◌, ℕ, zero, suc, List, [], ◌∷◌, ◌++◌}
 use Rattle.sent_serial.specs.declared.step.SerialStep.{SerialStep}
+use Rattle.sent_serial.specs.declared.step.SerialStep.TheVariants.{Nothing, Short, Enhanced, Bad}
 
 -- what stands at the front of a list of statuses: no message, one that isn't whole yet, or one that ends with this step and leads past so many later statuses
 pub data Found : Type 0 where
@@ -19,3 +20,16 @@ unfoldable pub steps_past : (ℕ → List ℕ → Found) → ℕ → List ℕ �
 steps_past found skip [] = []
 steps_past found (suc skip) (status ∷ later) = steps_past found skip later
 steps_past found zero (status ∷ later) = go_on (found status later) (λ used. steps_past found used later)
+
+-- the step, if there is one
+abbrev pub steps_of : SerialStep → List SerialStep
+steps_of Nothing = []
+steps_of (Short id value) = Short id value ∷ []
+steps_of (Enhanced id value wide) = Enhanced id value wide ∷ []
+steps_of (Bad rule) = Bad rule ∷ []
+
+-- the next status leads from what is kept to these steps, and what is kept then agrees
+pub record Leads (reading : List ℕ → List SerialStep) (agrees : List ℕ → Type 0) (kept : List ℕ) (status : ℕ) (steps : List SerialStep) : Type 0 where
+  pub rest : List ℕ
+  pub agreed : agrees rest
+  pub each : (more : List ℕ) → reading (kept ++ status ∷ more) ≡ steps ++ reading (rest ++ more)

@@ -18,3 +18,9 @@ clear_before (status ∷ later) = if start_bit status then 0 else suc (clear_bef
 unfoldable pub set_before : List ℕ → ℕ
 set_before [] = 0
 set_before (status ∷ later) = if start_bit status then suc (set_before later) else 0
+
+-- the bits of two lists in turn, as long as both have some
+unfoldable pub merged : List Bool → List Bool → List Bool
+merged [] others = []
+merged (bit ∷ bits) [] = []
+merged (bit ∷ bits) (other ∷ others) = bit ∷ other ∷ merged bits others
