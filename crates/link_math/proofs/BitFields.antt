@@ -1,9 +1,12 @@
 -- Some of the bits of a number, as a number of their own.
 --     number_of-append, number_of-push      the number of bits and more of them
 --     number_of-field      the number of some of the bits in the middle, by division
+--     number_of-bits_of      the number of the lowest bits
+--     number_of-bits_of-field      and of some of these
 use Rattle.std.proofs.Common.{◌≡◌, ℕ, zero, suc, ◌+◌, ◌-◌, ◌*◌, ◌/◌, ◌%◌, ◌^◌, ◌<◌, ◌≤◌, Bool, true, false, nat_eq, List, [], ◌∷◌, ◌++◌, length, take, drop, refl, sym, ◌∙◌, ap, ap₂, arith, if◌then◌else◌}
 use Rattle.std.proofs.lemmas.List.{drop-take, length-append, length-drop, length-take-le, take-append-drop}
-use Rattle.std.proofs.lemmas.Nat.{mod-mul-add, pow-add, shr_high}
+use Rattle.std.proofs.Math.Nat.{mod-eq_of_lt}
+use Rattle.std.proofs.lemmas.Nat.{mod-mul-add, mod-pow-add, pow-add, shr_high}
 use Rattle.link_math.specs.Division.{bits_of, number_of}
 use Rattle.link_math.proofs.BitLists.{bits_of-number_of, length-bits_of, number_of-below}
 
@@ -47,3 +50,27 @@ number_of-field bits place count behind fits =
     sym (number_of-middle (take place bits) middle back)
     ∙ ap₂ (λ b m. number_of (take place bits ++ (middle ++ back)) / 2 ^ b % 2 ^ m) rest long
     ∙ ap (λ all. number_of all / 2 ^ behind % 2 ^ count) (parted bits place count)
+
+-- a remainder by 2 is one bit
+one_bit : (n : ℕ) → n < 2 → (if nat_eq n 1 then 1 else 0) ≡ n
+one_bit zero small = refl
+one_bit (suc zero) small = refl
+one_bit (suc (suc n)) small = absurd (omega arith)
+
+pub number_of-bits_of : (width number : ℕ) → number_of (bits_of width number) ≡ number % 2 ^ width
+unfolding bits_of number_of
+number_of-bits_of zero number = omega arith
+number_of-bits_of (suc width) number =
+    let more : suc width ≡ 1 + width = omega arith in
+    let front : (if nat_eq (number / 2 ^ width % 2) 1 then 1 else 0) ≡ number / 2 ^ width % 2 = one_bit (number / 2 ^ width % 2) (omega arith) in
+    ap₂ (λ power rest. (if nat_eq (number / 2 ^ width % 2) 1 then 1 else 0) * power + rest) (ap (λ n. 2 ^ n) (length-bits_of width number)) (number_of-bits_of width number)
+    ∙ ap (λ one. one * 2 ^ width + number % 2 ^ width) front
+    ∙ sym (mod-pow-add number 1 width)
+    ∙ ap (λ n. number % 2 ^ n) (sym more)
+
+-- so many bits from a place on, with so many behind them, of a number's lowest bits
+pub number_of-bits_of-field : (width number place count behind : ℕ) → number < 2 ^ width → place + count + behind ≡ width
+    → number_of (take count (drop place (bits_of width number))) ≡ number / 2 ^ behind % 2 ^ count
+number_of-bits_of-field width number place count behind small fits =
+    number_of-field (bits_of width number) place count behind (omega (arith, length-bits_of width number))
+    ∙ ap (λ n. n / 2 ^ behind % 2 ^ count) (number_of-bits_of width number ∙ mod-eq_of_lt small)

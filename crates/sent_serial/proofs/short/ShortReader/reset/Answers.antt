@@ -1,0 +1,6 @@
+-- A reader that forgets all stands for no status.
+use Rattle.sent_serial.proofs.ShortLeads.{short-fresh}
+use Rattle.sent_serial.proofs.short.ShortReader.reset.Goals as goal
+
+pub returns : goal.returns
+returns c = short-fresh
