@@ -1,6 +1,7 @@
 -- Some of the bits of a number, as a number of their own.
 --     number_of-append, number_of-push      the number of bits and more of them
 --     number_of-field      the number of some of the bits in the middle, by division
+--     number_of-later      the number without its highest bit
 --     number_of-bits_of      the number of the lowest bits
 --     number_of-bits_of-field      and of some of these
 use Rattle.std.proofs.Common.{◌≡◌, ℕ, zero, suc, ◌+◌, ◌-◌, ◌*◌, ◌/◌, ◌%◌, ◌^◌, ◌<◌, ◌≤◌, Bool, true, false, nat_eq, List, [], ◌∷◌, ◌++◌, length, take, drop, refl, sym, ◌∙◌, ap, ap₂, arith, if◌then◌else◌}
@@ -74,3 +75,8 @@ pub number_of-bits_of-field : (width number place count behind : ℕ) → number
 number_of-bits_of-field width number place count behind small fits =
     number_of-field (bits_of width number) place count behind (omega (arith, length-bits_of width number))
     ∙ ap (λ n. n / 2 ^ behind % 2 ^ count) (number_of-bits_of width number ∙ mod-eq_of_lt small)
+
+-- a number without its highest bit is a remainder
+pub number_of-later : (bit : Bool) (bits : List Bool) → number_of (bit ∷ bits) % 2 ^ length bits ≡ number_of bits
+unfolding number_of
+number_of-later bit bits = mod-mul-add (if bit then 1 else 0) (2 ^ length bits) (number_of bits) (number_of-below bits)

@@ -2,9 +2,10 @@
 --     length-bits_of      so many bits
 --     number_of-below     the number of some bits is below that power of two
 --     bits_of-number_of   the bits of the number of some bits are these
-use Rattle.std.proofs.Common.{◌≡◌, ℕ, zero, suc, ◌+◌, ◌*◌, ◌/◌, ◌%◌, ◌^◌, ◌<◌, Bool, true, false, nat_eq, List, [], ◌∷◌, length, refl, ◌∙◌, ap, ap₂, arith, if◌then◌else◌}
+--     bits_of-mod         the lowest bits are those of a remainder
+use Rattle.std.proofs.Common.{◌≡◌, ℕ, zero, suc, ◌+◌, ◌*◌, ◌/◌, ◌%◌, ◌^◌, ◌<◌, Bool, true, false, nat_eq, List, [], ◌∷◌, length, refl, sym, ◌∙◌, ap, ap₂, arith, if◌then◌else◌}
 use Rattle.std.proofs.Math.Nat.{add-mul-div_right, pow-suc}
-use Rattle.std.proofs.lemmas.Nat.{pow_pos, shr_high}
+use Rattle.std.proofs.lemmas.Nat.{div-add-mod', pow_pos, shr_high}
 use Rattle.link_math.specs.Division.{bits_of, number_of}
 
 pub length-bits_of : (width number : ℕ) → length (bits_of width number) ≡ width
@@ -52,3 +53,9 @@ bits_of-number_of (bit ∷ bits) =
     ap₂ (λ b bs. b ∷ bs)
     (with_bit bit (length bits) (number_of bits) (number_of-below bits))
     (ap (bits_of (length bits)) turned ∙ bits_of-add (length bits) (number_of bits) above ∙ bits_of-number_of bits)
+
+pub bits_of-mod : (width number : ℕ) → bits_of width (number % 2 ^ width) ≡ bits_of width number
+bits_of-mod width number =
+    let some : 0 < 2 ^ width = pow_pos width in
+    let parts : number % 2 ^ width + number / 2 ^ width * 2 ^ width ≡ number = omega (arith, div-add-mod' number (2 ^ width)) in
+    sym (bits_of-add width (number % 2 ^ width) (number / 2 ^ width)) ∙ ap (bits_of width) parts

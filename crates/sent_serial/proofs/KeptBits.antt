@@ -1,9 +1,9 @@
 -- The bits of one status more.
---     map-push      of the statuses before it and of this one
---     pushed_value, pushed_start      as numbers
---     first_value      of this one alone
+--     pushed      their number, with those of the statuses before it
+--     first_bit      of this one alone
+--     length-map      as many bits as statuses
 use mir.Val.{bool_byte}
-use Rattle.std.proofs.Common.{◌≡◌, ℕ, ◌+◌, ◌*◌, List, [], ◌∷◌, ◌++◌, Bool, true, false, map, refl, sym, ap, ap₂, ◌∙◌, if◌then◌else◌, arith}
+use Rattle.std.proofs.Common.{◌≡◌, ℕ, suc, length, ◌+◌, ◌*◌, List, [], ◌∷◌, ◌++◌, Bool, true, false, map, refl, sym, ap, ap₂, ◌∙◌, if◌then◌else◌, arith}
 use Rattle.std.proofs.lemmas.List.{map-append}
 use Rattle.link_math.specs.Division.{number_of}
 use Rattle.link_math.proofs.BitFields.{number_of-push}
@@ -27,3 +27,7 @@ number_none = refl
 
 pub first_bit : (bit_of : ℕ → Bool) (status one : ℕ) (bit : Bool) → one ≡ bool_byte bit → bit ≡ bit_of status → number_of (map bit_of (status ∷ [])) ≡ one
 first_bit bit_of status one bit e is = pushed bit_of [] status 0 one bit number_none e is ∙ omega arith
+
+pub length-map : (bit_of : ℕ → Bool) (statuses : List ℕ) → length (map bit_of statuses) ≡ length statuses
+length-map bit_of [] = refl
+length-map bit_of (status ∷ later) = ap suc (length-map bit_of later)

@@ -1,6 +1,9 @@
 pub mod Passing
 pub mod StartBits
 pub mod KeptBits
+pub mod EnhancedSteps
+pub mod EnhancedLeads
+pub mod EnhancedMessages
 pub mod ShortSteps
 pub mod ShortLeads
 pub mod ShortMessages

@@ -18,7 +18,7 @@ use Rattle.sent_serial.specs.Readings.{Leads, steps_of}
 use Rattle.sent_serial.specs.Short.{short_message, short_reading}
 use Rattle.sent_serial.specs.Kept.{AgreesShort, IsShortFront, IsShortState}
 use Rattle.sent_serial.specs.Readers.{StandsForShort}
-use Rattle.sent_serial.proofs.KeptBits.{first_bit, pushed}
+use Rattle.sent_serial.proofs.KeptBits.{first_bit, length-map, pushed}
 use Rattle.sent_serial.proofs.ShortSteps.{reads-message, reads-none, reads-restart, reads-skipped, reads-waiting}
 use Rattle.sent_serial.proofs.StartBits.{clear-append, clear_here, no_clear}
 
@@ -87,10 +87,6 @@ told false id value = refl
 pub steps-message : (bits : List Bool) → steps_of (short_message bits) ≡ short_message bits ∷ []
 unfolding short_message
 steps-message bits = told _ _ _
-
-length-map : {X Y : Type 0} (f : X → Y) (xs : List X) → length (map f xs) ≡ length xs
-length-map f [] = refl
-length-map f (x ∷ xs) = ap suc (length-map f xs)
 
 pub lead-ends : (kept : List ℕ) (taken bits status one : ℕ) (bit : Bool) (step : SerialStep) → IsShortFront taken bits kept → taken + 1 ≡ 16 → start_bit status ≡ false → one ≡ bool_byte bit → bit ≡ value_bit status
     → step ≡ short_message (bits_of 16 (2 * bits + one)) → Leads short_reading (AgreesShort Outside) kept status (steps_of step)
