@@ -1,7 +1,7 @@
 -- What eighteen statuses say, from their value bits and start bits as numbers.
 --     checked_is      the bits that the CRC runs over
 --     at_even, at_odd, checked_more, checked_all      the same, bit by bit
---     content-wide, content-narrow      by the form bit
+--     content-is, content-wide, content-narrow      by the form bit
 --     message-good, message-bad      by the CRC, right or wrong
 use Rattle.std.proofs.Common.{◌≡◌, ℕ, ◌+◌, ◌-◌, ◌*◌, ◌/◌, ◌%◌, ◌^◌, ◌<◌, ◌≤◌, List, [], ◌∷◌, ◌++◌, Bool, true, false, cond, nat_eq, get_or, map, take, drop, length, refl, sym, ap, ap₂, ◌∙◌, arith, if◌then◌else◌}
 use Rattle.std.specs.Prelude.{flat_map}
@@ -74,12 +74,12 @@ unfolding merged bits_of
 checked_all values starts bits many each = fill_by_all (checked_bit values starts) bits 24 false many each
 
 -- ---- what a message says
-abbrev contents : ℕ → ℕ → SerialStep
+abbrev pub contents : ℕ → ℕ → SerialStep
 contents values starts =
     if nat_eq (starts / 1024 % 2) 1 then Enhanced (starts / 64 % 16) (starts / 2 % 16 * 4096 + values % 4096) true
     else Enhanced (starts / 64 % 16 * 16 + starts / 2 % 16) (values % 4096) false
 
-content-is : (statuses : List ℕ) (values starts : ℕ) → HasBits statuses values starts → enhanced_content statuses ≡ contents values starts
+pub content-is : (statuses : List ℕ) (values starts : ℕ) → HasBits statuses values starts → enhanced_content statuses ≡ contents values starts
 unfolding enhanced_content
 content-is statuses values starts has =
     let many = has.as_many in

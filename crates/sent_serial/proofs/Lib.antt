@@ -4,6 +4,8 @@ pub mod KeptBits
 pub mod EnhancedSteps
 pub mod EnhancedLeads
 pub mod EnhancedMessages
+pub mod SpreadBits
+pub mod SentMessages
 pub mod ShortSteps
 pub mod ShortLeads
 pub mod ShortMessages

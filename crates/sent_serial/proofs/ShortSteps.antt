@@ -1,7 +1,7 @@
 -- What stands at a status, and how short messages are read on.
-use Rattle.std.proofs.Common.{◌≡◌, ℕ, suc, ◌+◌, ◌<◌, ◌≤◌, List, [], ◌∷◌, ◌++◌, Bool, true, false, cond, nat_eq, nat_le, map, take, length, length-append, refl, sym, ap, ap₂, ◌∙◌, append_assoc, arith}
+use Rattle.std.proofs.Common.{◌≡◌, ℕ, suc, ◌+◌, ◌<◌, ◌≤◌, List, [], ◌∷◌, ◌++◌, Bool, true, false, cond, nat_eq, nat_le, map, take, length, length-append, refl, sym, ap, ap₂, ◌∙◌, append-nil, append_assoc, arith}
 use Rattle.std.proofs.lemmas.Bool.Decides.{nat_tests}
-use Rattle.std.proofs.Math.Seq.{take-append-add}
+use Rattle.std.proofs.Math.Seq.{take-append-add, take-length}
 use Rattle.line_base.specs.declared.rule.Rule.TheVariants.{Restart}
 use Rattle.sent_serial.specs.declared.step.SerialStep.TheVariants.{Bad}
 use Rattle.sent_serial.specs.Statuses.{start_bit, value_bit, clear_before}
@@ -92,3 +92,12 @@ reads-message first status clears more starts all fourteen clear =
     ∙ ap (λ f. go_on f (λ used. steps_past short_found used later)) (found-message first later starts enough)
     ∙ ap₂ (λ bits steps. short_message (map value_bit (first ∷ bits)) ∷ steps) front
     (ap₂ (λ n l. steps_past short_found n l) long whole ∙ reads-rest (clears ++ status ∷ []) more)
+
+-- a whole message with nothing behind it
+pub reads-whole : (first : ℕ) (later : List ℕ) → start_bit first ≡ true → clear_before later ≡ length later → length later ≡ 15 → short_reading (first ∷ later) ≡ short_message (map value_bit (first ∷ later)) ∷ []
+reads-whole first later starts all fifteen =
+    let front : take 15 later ≡ later = ap (λ n. take n later) (sym fifteen) ∙ take-length later in
+    reads-first first later
+    ∙ ap (λ f. go_on f (λ used. steps_past short_found used later)) (found-message first later starts (omega arith))
+    ∙ ap₂ (λ bits n. short_message (map value_bit (first ∷ bits)) ∷ steps_past short_found n later) front (sym fifteen)
+    ∙ ap (λ steps. short_message (map value_bit (first ∷ later)) ∷ steps) (ap (λ l. steps_past short_found (length later) l) (sym (append-nil later)) ∙ reads-rest later [] ∙ reads-none)

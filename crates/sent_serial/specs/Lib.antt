@@ -3,4 +3,5 @@ pub mod Readings
 pub mod Short
 pub mod Enhanced
 pub mod Kept
+pub mod Messages
 pub mod Readers

@@ -1,5 +1,5 @@
 -- The two bits of a frame's status nibble that carry serial messages (SAE J2716).
-use Rattle.std.specs.Prelude.{ℕ, suc, ◌/◌, ◌%◌, Bool, nat_eq, List, [], ◌∷◌, if◌then◌else◌}
+use Rattle.std.specs.Prelude.{◌≡◌, ℕ, suc, ◌<◌, ◌/◌, ◌%◌, Bool, nat_eq, List, [], ◌∷◌, if◌then◌else◌}
 
 -- bit 3 of a status nibble, the start bit
 abbrev pub start_bit : ℕ → Bool
@@ -8,6 +8,11 @@ start_bit status = nat_eq (status / 8 % 2) 1
 -- bit 2 of a status nibble, the value bit
 abbrev pub value_bit : ℕ → Bool
 value_bit status = nat_eq (status / 4 % 2) 1
+
+-- a status has no bit but these two set
+pub record HasTwoBits (status : ℕ) : Type 0 where
+  pub is_nibble : status < 16
+  pub no_other : status % 4 ≡ 0
 
 -- how many statuses whose start bit is clear stand before the first whose start bit is set
 unfoldable pub clear_before : List ℕ → ℕ

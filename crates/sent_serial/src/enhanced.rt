@@ -58,7 +58,7 @@ impl Model for EnhancedReader {
 
 /// The bits that the CRC runs over: the value bit and then the start bit of each frame from 7 to 18, where
 /// these are the bits of the frames, the last one lowest.
-fn checked(values: u32, starts: u32) -> [bool; 24]
+pub fn checked(values: u32, starts: u32) -> [bool; 24]
     ensures { result ≡ merged (bits_of 12 values) (bits_of 12 starts) }
 {
     let mut bits = [false; 24];

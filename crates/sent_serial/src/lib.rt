@@ -8,11 +8,13 @@
 //! where reading goes on after a fault. A reader keeps the bits of the message that it is in, no statuses.
 #![tactic(auto)]
 
+mod encoders;
 mod enhanced;
 mod short;
 mod status;
 mod step;
 
+pub use encoders::{enhanced_bits, short_bits};
 pub use enhanced::EnhancedReader;
 pub use short::ShortReader;
 pub use step::SerialStep;

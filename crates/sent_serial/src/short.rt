@@ -50,7 +50,7 @@ impl Model for ShortReader {
 }
 
 /// The CRC of a message of this ID, 0 to 15, and this value.
-fn check_of(id: u8, value: u8) -> u8
+pub fn check_of(id: u8, value: u8) -> u8
     requires { id < 16 }
     ensures value { result ≡ crc4_of (id ∷ value / 16 ∷ value % 16 ∷ []) }
     ensures is_nibble { result < 16 }
