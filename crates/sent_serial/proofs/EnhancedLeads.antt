@@ -6,7 +6,7 @@
 --     enhanced-waits      what is kept ends nothing
 --     enhanced-pushed, enhanced-grows, enhanced-fresh      so the reader stands for one status more, and the steps grow
 use mir.Val.{bool_byte}
-use Rattle.std.proofs.Common.{◌≡◌, ℕ, suc, ◌+◌, ◌*◌, ◌%◌, ◌^◌, ◌<◌, ◌≤◌, ◌⊎◌, List, [], ◌∷◌, ◌++◌, Bool, true, false, cond, get_or, map, take, length, length-append, refl, sym, ap, ap₂, ◌∙◌, append_assoc, append-nil, subst, inl, inr, arith}
+use Rattle.std.proofs.Common.{◌≡◌, ℕ, suc, ◌+◌, ◌*◌, ◌%◌, ◌^◌, ◌<◌, ◌≤◌, ◌⊎◌, List, [], ◌∷◌, ◌++◌, Bool, true, false, cond, map, take, length, length-append, refl, sym, ap, ap₂, ◌∙◌, append_assoc, append-nil, subst, inl, inr, arith}
 use Rattle.std.specs.Prelude.{slice_index}
 use Rattle.std.proofs.Math.ListN.{get_or-append}
 use Rattle.std.proofs.Math.Nat.{pow-suc}
@@ -60,7 +60,7 @@ last_six kept number seven is first later stands =
     sym (number_of-later (value_bit first) (map value_bit later)) ∙ ap₂ (λ n width. n % 2 ^ width) whole six
 
 pub lead-seven : (kept : List ℕ) (run bits status one : ℕ) (bit : Bool) → IsRun run bits kept → 6 ≤ run → run ≤ 6 → start_bit status ≡ true → one ≡ bool_byte bit → bit ≡ value_bit status
-    → Leads enhanced_reading (AgreesEnhanced (Searching run ((2 * bits + one) % 64))) kept status []
+    → Leads enhanced_reading (AgreesEnhanced (Searching 6 ((2 * bits + one) % 64))) kept status []
 lead-seven [] run bits status one bit before many few set e is = absurd (omega (arith, before.as_many))
 lead-seven (first ∷ later) run bits status one bit before many few set e is =
     let seven = first ∷ later ++ status ∷ [] in

@@ -88,13 +88,13 @@ content-is statuses values starts has =
     let second : number_of (start_bits 14 4 statuses) ≡ starts / 2 % 16 = field start_bit statuses starts 13 4 1 has.start_bits many refl in
     let low : number_of (value_bits 7 12 statuses) ≡ values % 4096 = field value_bit statuses values 6 12 0 has.value_bits many refl ∙ omega arith in
     let wide : number_of (start_bits 14 4 statuses ++ value_bits 7 12 statuses) ≡ starts / 2 % 16 * 4096 + values % 4096 =
-        number_of-append (start_bits 14 4 statuses) (value_bits 7 12 statuses)
-        ∙ ap (λ n. number_of (start_bits 14 4 statuses) * 2 ^ n + number_of (value_bits 7 12 statuses)) (field_length value_bit statuses 6 12 (omega arith))
-        ∙ ap₂ (λ a b. a * 4096 + b) second low in
+    number_of-append (start_bits 14 4 statuses) (value_bits 7 12 statuses)
+    ∙ ap (λ n. number_of (start_bits 14 4 statuses) * 2 ^ n + number_of (value_bits 7 12 statuses)) (field_length value_bit statuses 6 12 (omega arith))
+    ∙ ap₂ (λ a b. a * 4096 + b) second low in
     let id : number_of (start_bits 9 4 statuses ++ start_bits 14 4 statuses) ≡ starts / 64 % 16 * 16 + starts / 2 % 16 =
-        number_of-append (start_bits 9 4 statuses) (start_bits 14 4 statuses)
-        ∙ ap (λ n. number_of (start_bits 9 4 statuses) * 2 ^ n + number_of (start_bits 14 4 statuses)) (field_length start_bit statuses 13 4 (omega arith))
-        ∙ ap₂ (λ a b. a * 16 + b) first second in
+    number_of-append (start_bits 9 4 statuses) (start_bits 14 4 statuses)
+    ∙ ap (λ n. number_of (start_bits 9 4 statuses) * 2 ^ n + number_of (start_bits 14 4 statuses)) (field_length start_bit statuses 13 4 (omega arith))
+    ∙ ap₂ (λ a b. a * 16 + b) first second in
     rw (form, wide, id, first, low) refl
 
 pub content-wide : (statuses : List ℕ) (values starts second : ℕ) → HasBits statuses values starts → second ≡ starts / 2 % 16 → starts / 1024 % 2 ≡ 1

@@ -3,7 +3,7 @@
 --     begun-early, begun-13, begun-late, begun-18, begun-whole      by the start bits of frames 13 and 18
 --     reads-none, reads-waiting, reads-skipped, reads-ended      how reading goes on after it
 --     reads-broken, reads-longer      a run that ends too early, and one of seven
-use Rattle.std.proofs.Common.{◌≡◌, ℕ, suc, ◌+◌, ◌<◌, ◌≤◌, List, [], ◌∷◌, ◌++◌, Bool, true, false, cond, nat_eq, nat_le, nat_lt, take, length, length-append, refl, sym, ap, ap₂, ◌∙◌, inl, inr, arith}
+use Rattle.std.proofs.Common.{◌≡◌, ℕ, suc, ◌+◌, ◌<◌, ◌≤◌, List, [], ◌∷◌, ◌++◌, true, false, nat_eq, nat_le, nat_lt, take, length, length-append, refl, ap, ◌∙◌, inl, inr, arith}
 use Rattle.std.proofs.lemmas.Bool.{cases_Bool, eq-eqb, ne_eqb}
 use Rattle.std.proofs.lemmas.Bool.Decides.{nat_tests}
 use Rattle.std.specs.Prelude.{slice_index}

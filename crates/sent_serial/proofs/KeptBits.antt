@@ -7,7 +7,6 @@ use Rattle.std.proofs.Common.{◌≡◌, ℕ, suc, length, ◌+◌, ◌*◌, Lis
 use Rattle.std.proofs.lemmas.List.{map-append}
 use Rattle.link_math.specs.Division.{number_of}
 use Rattle.link_math.proofs.BitFields.{number_of-push}
-use Rattle.sent_serial.specs.Statuses.{start_bit, value_bit}
 
 byte_of : (bit : Bool) → bool_byte bit ≡ (if bit then 1 else 0)
 byte_of true = refl

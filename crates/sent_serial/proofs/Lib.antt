@@ -1,4 +1,5 @@
 pub mod Passing
+pub mod Prefixes
 pub mod StartBits
 pub mod KeptBits
 pub mod EnhancedSteps

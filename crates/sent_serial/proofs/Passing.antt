@@ -2,10 +2,7 @@
 --     passed      behind a front stands what is read of the rest
 --     leads_grows, leads_goes_on      where the next status leads, as a reader says it
 use Rattle.std.proofs.Common.{◌≡◌, ℕ, List, [], ◌∷◌, ◌++◌, length, refl}
-use Rattle.line_base.specs.Readers.{GoesOn}
-use Rattle.line_base.proofs.Readers.{goes_on, grows}
-use Rattle.sent_serial.specs.declared.step.SerialStep.{SerialStep}
-use Rattle.sent_serial.specs.Readings.{Found, Leads, steps_past}
+use Rattle.sent_serial.specs.Readings.{Found, steps_past}
 
 pub passed : (found : ℕ → List ℕ → Found) (front rest : List ℕ) → steps_past found (length front) (front ++ rest) ≡ steps_past found 0 rest
 unfolding steps_past

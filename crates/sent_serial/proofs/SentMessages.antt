@@ -3,8 +3,7 @@
 --     enhanced-sent      an enhanced one
 --     wide-said, narrow-said      what it says
 use borrow.Author.Count.{below_more, below_none}
-use Rattle.std.proofs.Common.{◌≡◌, ℕ, zero, suc, ◌+◌, ◌-◌, ◌*◌, ◌/◌, ◌%◌, ◌^◌, ◌<◌, ◌≤◌, List, [], ◌∷◌, ◌++◌, Bool, true, false, cond, nat_eq, get_or, map, take, length, replicate, refl, sym, ap, ap₂, ◌∙◌, append-nil, arith}
-use Rattle.std.specs.Prelude.{slice_index}
+use Rattle.std.proofs.Common.{◌≡◌, ℕ, zero, suc, ◌+◌, ◌*◌, ◌/◌, ◌%◌, ◌^◌, ◌<◌, List, [], ◌∷◌, Bool, true, false, nat_eq, get_or, map, take, length, replicate, refl, sym, ap, ap₂, ◌∙◌, append-nil, arith}
 use Rattle.std.proofs.Math.Nat.{mod-eq_of_lt}
 use Rattle.std.proofs.Math.Seq.{take-length}
 use Rattle.std.proofs.lemmas.Bool.{eq-eqb, ne_eqb}
@@ -12,7 +11,6 @@ use Rattle.link_math.specs.Checks.{crc4_of, crc6_of}
 use Rattle.link_math.specs.Division.{bits_of, number_of}
 use Rattle.link_math.proofs.BitFields.{number_of-bits_of}
 use Rattle.link_math.proofs.BitLists.{bits_of-mod, length-bits_of}
-use Rattle.sent_serial.specs.declared.step.SerialStep.{SerialStep}
 use Rattle.sent_serial.specs.declared.step.SerialStep.TheVariants.{Short, Enhanced}
 use Rattle.sent_serial.specs.Statuses.{clear_before, merged, set_before, start_bit, value_bit}
 use Rattle.sent_serial.specs.Readings.Found.{Ended}
@@ -128,8 +126,8 @@ sent_reads statuses starts bits are =
     let clear_18 : StartAt statuses 17 false = bit_at start_bit statuses 18 starts bits 17 0 refl ∙ is_clear (starts / 1 % 2) (omega (arith, are.are, are.zero_18)) in
     let whole : take 18 statuses ≡ statuses = ap (λ n. take n statuses) (sym long) ∙ take-length statuses in
     let ends : begun_at statuses ≡ Ended (enhanced_message statuses) 17 =
-        at-begun statuses (six_set statuses starts bits are long) (omega arith)
-        ∙ begun-whole statuses (omega arith) clear_13 clear_18 ∙ ap (λ all. Ended (enhanced_message all) 17) whole in
+    at-begun statuses (six_set statuses starts bits are long) (omega arith)
+    ∙ begun-whole statuses (omega arith) clear_13 clear_18 ∙ ap (λ all. Ended (enhanced_message all) 17) whole in
     ap enhanced_reading (sym (append-nil statuses))
     ∙ reads-ended statuses [] (enhanced_message statuses) 17 (omega arith) (ap begun_at (append-nil statuses) ∙ ends)
     ∙ ap (λ steps. enhanced_message statuses ∷ steps) reads-none

@@ -4,7 +4,7 @@
 --     short-waits      what is kept ends nothing
 --     short-pushed, short-grows      so the reader stands for one status more, and the steps grow
 use mir.Val.{bool_byte}
-use Rattle.std.proofs.Common.{◌≡◌, ℕ, suc, ◌+◌, ◌*◌, ◌<◌, ◌≤◌, List, [], ◌∷◌, ◌++◌, Bool, true, false, cond, map, length, length-append, refl, sym, ap, ap₂, ◌∙◌, append_assoc, append-nil, subst, arith}
+use Rattle.std.proofs.Common.{◌≡◌, ℕ, ◌+◌, ◌*◌, ◌≤◌, List, [], ◌∷◌, ◌++◌, Bool, true, false, cond, map, length, length-append, refl, sym, ap, ap₂, ◌∙◌, append_assoc, append-nil, subst, arith}
 use Rattle.line_base.proofs.Readers.{goes_on, grows}
 use Rattle.line_base.specs.declared.rule.Rule.TheVariants.{Restart, SerialCheck}
 use Rattle.link_math.specs.Division.{bits_of, number_of}
@@ -13,7 +13,7 @@ use Rattle.sent_serial.specs.declared.short.ShortState.{ShortState}
 use Rattle.sent_serial.specs.declared.short.ShortState.TheVariants.{Outside, Within}
 use Rattle.sent_serial.specs.declared.step.SerialStep.{SerialStep}
 use Rattle.sent_serial.specs.declared.step.SerialStep.TheVariants.{Short, Bad}
-use Rattle.sent_serial.specs.Statuses.{start_bit, value_bit, clear_before}
+use Rattle.sent_serial.specs.Statuses.{start_bit, value_bit}
 use Rattle.sent_serial.specs.Readings.{Leads, steps_of}
 use Rattle.sent_serial.specs.Short.{short_message, short_reading}
 use Rattle.sent_serial.specs.Kept.{AgreesShort, IsShortFront, IsShortState}

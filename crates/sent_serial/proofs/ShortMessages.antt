@@ -1,12 +1,11 @@
 -- What sixteen value bits say, from their number.
 --     message-good, message-bad      by its CRC, right or wrong
-use Rattle.std.proofs.Common.{◌≡◌, ℕ, ◌/◌, ◌%◌, ◌^◌, ◌<◌, List, [], ◌∷◌, Bool, true, false, cond, nat_eq, take, drop, refl, sym, ap, ap₂, ◌∙◌, arith}
+use Rattle.std.proofs.Common.{◌≡◌, ℕ, ◌/◌, ◌%◌, ◌^◌, ◌<◌, [], ◌∷◌, true, false, cond, nat_eq, take, drop, refl, sym, ap, ◌∙◌, arith}
 use Rattle.std.proofs.lemmas.Bool.{eq-eqb, ne_eqb}
 use Rattle.line_base.specs.declared.rule.Rule.TheVariants.{SerialCheck}
 use Rattle.link_math.specs.Checks.{crc4_of}
 use Rattle.link_math.specs.Division.{bits_of, number_of}
 use Rattle.link_math.proofs.BitFields.{number_of-bits_of-field}
-use Rattle.sent_serial.specs.declared.step.SerialStep.{SerialStep}
 use Rattle.sent_serial.specs.declared.step.SerialStep.TheVariants.{Short, Bad}
 use Rattle.sent_serial.specs.Short.{nibble_at, short_message}
 

@@ -1,11 +1,11 @@
 -- What stands at a status, and how short messages are read on.
-use Rattle.std.proofs.Common.{◌≡◌, ℕ, suc, ◌+◌, ◌<◌, ◌≤◌, List, [], ◌∷◌, ◌++◌, Bool, true, false, cond, nat_eq, nat_le, map, take, length, length-append, refl, sym, ap, ap₂, ◌∙◌, append-nil, append_assoc, arith}
+use Rattle.std.proofs.Common.{◌≡◌, ℕ, ◌+◌, ◌<◌, ◌≤◌, List, [], ◌∷◌, ◌++◌, true, false, nat_eq, nat_le, map, take, length, length-append, refl, sym, ap, ap₂, ◌∙◌, append-nil, append_assoc, arith}
 use Rattle.std.proofs.lemmas.Bool.Decides.{nat_tests}
 use Rattle.std.proofs.Math.Seq.{take-append-add, take-length}
 use Rattle.line_base.specs.declared.rule.Rule.TheVariants.{Restart}
 use Rattle.sent_serial.specs.declared.step.SerialStep.TheVariants.{Bad}
 use Rattle.sent_serial.specs.Statuses.{start_bit, value_bit, clear_before}
-use Rattle.sent_serial.specs.Readings.{go_on, steps_past, steps_of}
+use Rattle.sent_serial.specs.Readings.{go_on, steps_past}
 use Rattle.sent_serial.specs.Readings.Found.{Skipped, Waiting, Ended}
 use Rattle.sent_serial.specs.Short.{short_found, short_message, short_reading}
 use Rattle.sent_serial.proofs.Passing.{passed}

@@ -21,8 +21,8 @@ pub spread_more : (values starts count place status : ℕ) (statuses : List ℕ)
 spread_more values starts count place status statuses within here before =
     below_more (λ (k : ℕ). IsSpread values starts (count - 1 - k) (get_or (set statuses place status) k 0)) place
     (λ k below.
-        let other : k ≢ place = omega arith in
-        subst (λ (s : ℕ). IsSpread values starts (count - 1 - k) s) (sym (get_or-set_other statuses place k status 0 other)) (before k below))
+    let other : k ≢ place = omega arith in
+    subst (λ (s : ℕ). IsSpread values starts (count - 1 - k) s) (sym (get_or-set_other statuses place k status 0 other)) (before k below))
     (subst (λ (s : ℕ). IsSpread values starts (count - 1 - place) s) (sym (get_or-set_same statuses place status 0 within)) here)
 
 pub spread_bits : (bit_of : ℕ → Bool) (register : ℕ) (statuses : List ℕ) → ((k : ℕ) → k < length statuses → bit_of (get_or statuses k 0) ≡ nat_eq (register / 2 ^ (length statuses - 1 - k) % 2) 1)
@@ -34,8 +34,8 @@ spread_bits bit_of register (status ∷ later) each =
     ap₂ (λ bit bits. bit ∷ bits)
     (each 0 (omega arith) ∙ ap (λ n. nat_eq (register / 2 ^ n % 2) 1) last)
     (spread_bits bit_of register later (λ k below.
-        let next : suc (length later) - 1 - suc k ≡ length later - 1 - k = omega arith in
-        each (suc k) (omega arith) ∙ ap (λ n. nat_eq (register / 2 ^ n % 2) 1) next))
+    let next : suc (length later) - 1 - suc k ≡ length later - 1 - k = omega arith in
+    each (suc k) (omega arith) ∙ ap (λ n. nat_eq (register / 2 ^ n % 2) 1) next))
 
 pub spread_two_bits : (values starts count : ℕ) (statuses : List ℕ) → length statuses ≡ count → ((k : ℕ) → k < count → IsSpread values starts (count - 1 - k) (get_or statuses k 0)) → All HasTwoBits statuses
 spread_two_bits values starts count statuses long each = All-from_get_or HasTwoBits statuses 0 (λ k below. (each k (omega arith)).two_bits)

@@ -5,10 +5,8 @@
 --     set-append, clear-append      where all of a front are
 --     set-stays, clear-stays      where not all of a front are
 --     set-number      the number of set start bits
-use Rattle.std.proofs.Common.{◌≡◌, ℕ, suc, ◌+◌, ◌^◌, ◌<◌, ◌≤◌, List, [], ◌∷◌, ◌++◌, Bool, true, false, cond, map, length, refl, sym, ap, ◌∙◌, inl, inr, arith}
-use Rattle.std.proofs.Math.Nat.{pow-suc}
+use Rattle.std.proofs.Common.{◌≡◌, ℕ, suc, ◌+◌, ◌<◌, ◌≤◌, List, [], ◌∷◌, ◌++◌, true, false, length, refl, inl, inr, arith}
 use Rattle.std.proofs.lemmas.Bool.{cases_Bool}
-use Rattle.link_math.specs.Division.{number_of}
 use Rattle.sent_serial.specs.Statuses.{start_bit, clear_before, set_before}
 
 pub set_here : (status : ℕ) (later : List ℕ) → start_bit status ≡ true → set_before (status ∷ later) ≡ suc (set_before later)

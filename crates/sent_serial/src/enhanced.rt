@@ -16,6 +16,12 @@ use std::marker::Model;
 /// How many frames with a set start bit an enhanced message begins with (SAE J2716).
 const RUN: u8 = 6;
 
+/// How many frames come before frame 13, whose start bit is 0 (SAE J2716).
+const BEFORE_13: u8 = 12;
+
+/// How many frames come before frame 18, the last, whose start bit is 0 (SAE J2716).
+const BEFORE_18: u8 = 17;
+
 /// Where a reader of enhanced messages stands between two frames.
 #[derive(Clone, Copy, Debug, PartialEq, Eq)]
 enum EnhancedState {
@@ -130,7 +136,7 @@ fn searched(run: u8, bits: u8, status: u8) -> EnhancedState
             };
         }
         return EnhancedState::Searching {
-            run,
+            run: RUN,
             bits: longer % 0x40,
         };
     }
@@ -151,15 +157,15 @@ fn continued(taken: u8, values: u32, starts: u32, status: u8) -> (EnhancedState,
     ensures leads { (kept : List ℕ) → AgreesEnhanced (EnhancedState.Within taken values starts) kept → Leads enhanced_reading (AgreesEnhanced result.0) kept status (steps_of result.1) }
 {
     let start = has_start(status);
-    if start && taken == 12 {
+    if start && taken == BEFORE_13 {
         return (begun(status), SerialStep::Bad(Rule::Zero13));
     }
-    if start && taken == 17 {
+    if start && taken == BEFORE_18 {
         return (begun(status), SerialStep::Bad(Rule::Zero18));
     }
     let values = 2 * values + u32::from(has_value(status));
     let starts = 2 * starts + u32::from(start);
-    if taken == 17 {
+    if taken == BEFORE_18 {
         let outside = EnhancedState::Searching { run: 0, bits: 0 };
         return (outside, message_of(values, starts));
     }

@@ -13,6 +13,8 @@ mod enhanced;
 mod short;
 mod status;
 mod step;
+#[cfg(test)]
+mod tests;
 
 pub use encoders::{enhanced_bits, short_bits};
 pub use enhanced::EnhancedReader;

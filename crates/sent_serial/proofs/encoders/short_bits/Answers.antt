@@ -1,6 +1,4 @@
 -- A short message is read as what it says.
-use Rattle.std.proofs.Common.{◌+◌, ◌*◌, ◌∙◌, ap, ap₂}
-use Rattle.link_math.specs.Division.{bits_of}
 use Rattle.sent_serial.proofs.SentMessages.{short-sent}
 use Rattle.sent_serial.proofs.encoders.short_bits.Goals as goal
 
