@@ -21,10 +21,11 @@ use Rattle.sent_serial.specs.declared.enhanced.EnhancedState.TheVariants.{Search
 use Rattle.sent_serial.specs.declared.step.SerialStep.{SerialStep}
 use Rattle.sent_serial.specs.declared.step.SerialStep.TheVariants.{Enhanced, Bad}
 use Rattle.sent_serial.specs.Statuses.{start_bit, value_bit, set_before}
-use Rattle.sent_serial.specs.Readings.{Leads, steps_of}
+use Rattle.sent_serial.specs.Readings.{steps_of}
 use Rattle.sent_serial.specs.Readings.Found.{Waiting, Ended}
 use Rattle.sent_serial.specs.Enhanced.{begun_at, enhanced_content, enhanced_message, enhanced_reading}
-use Rattle.sent_serial.specs.Kept.{AgreesEnhanced, HasBits, IsEnhancedFront, IsEnhancedState, IsRun}
+use Rattle.sent_serial.specs.Kept.{AgreesEnhanced, IsEnhancedFront, IsEnhancedState, IsRun, Leads}
+use Rattle.sent_serial.specs.Messages.{HasBits}
 use Rattle.sent_serial.specs.Readers.{StandsForEnhanced}
 use Rattle.sent_serial.proofs.EnhancedSteps.{at-begun, at-run, begun-13, begun-18, begun-early, begun-late, begun-whole, reads-broken, reads-ended, reads-longer, reads-none, reads-waiting}
 use Rattle.sent_serial.proofs.KeptBits.{first_bit, length-map, number_none, pushed}

@@ -19,7 +19,7 @@ use Rattle.sent_serial.specs.declared.step.SerialStep.{SerialStep}
 use Rattle.sent_serial.specs.declared.step.SerialStep.TheVariants.{Enhanced, Bad}
 use Rattle.sent_serial.specs.Statuses.{merged, start_bit, value_bit}
 use Rattle.sent_serial.specs.Enhanced.{checked_bits, enhanced_content, enhanced_message, start_bits, value_bits}
-use Rattle.sent_serial.specs.Kept.{HasBits}
+use Rattle.sent_serial.specs.Messages.{HasBits}
 use Rattle.sent_serial.proofs.KeptBits.{length-map}
 
 -- ---- fields

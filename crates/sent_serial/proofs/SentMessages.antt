@@ -16,8 +16,7 @@ use Rattle.sent_serial.specs.Statuses.{clear_before, merged, set_before, start_b
 use Rattle.sent_serial.specs.Readings.Found.{Ended}
 use Rattle.sent_serial.specs.Short.{short_message, short_reading}
 use Rattle.sent_serial.specs.Enhanced.{begun_at, enhanced_content, enhanced_message, enhanced_reading}
-use Rattle.sent_serial.specs.Kept.{HasBits}
-use Rattle.sent_serial.specs.Messages.{IsMessageOf}
+use Rattle.sent_serial.specs.Messages.{HasBits, IsMessageOf}
 use Rattle.sent_serial.proofs.EnhancedMessages.{content-is, message-good}
 use Rattle.sent_serial.proofs.EnhancedSteps.{at-begun, begun-whole, reads-ended, reads-none}
 use Rattle.sent_serial.proofs.KeptBits.{length-map}

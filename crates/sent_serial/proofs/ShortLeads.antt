@@ -14,9 +14,9 @@ use Rattle.sent_serial.specs.declared.short.ShortState.TheVariants.{Outside, Wit
 use Rattle.sent_serial.specs.declared.step.SerialStep.{SerialStep}
 use Rattle.sent_serial.specs.declared.step.SerialStep.TheVariants.{Short, Bad}
 use Rattle.sent_serial.specs.Statuses.{start_bit, value_bit}
-use Rattle.sent_serial.specs.Readings.{Leads, steps_of}
+use Rattle.sent_serial.specs.Readings.{steps_of}
 use Rattle.sent_serial.specs.Short.{short_message, short_reading}
-use Rattle.sent_serial.specs.Kept.{AgreesShort, IsShortFront, IsShortState}
+use Rattle.sent_serial.specs.Kept.{AgreesShort, IsShortFront, IsShortState, Leads}
 use Rattle.sent_serial.specs.Readers.{StandsForShort}
 use Rattle.sent_serial.proofs.KeptBits.{first_bit, length-map, pushed}
 use Rattle.sent_serial.proofs.ShortSteps.{reads-message, reads-none, reads-restart, reads-skipped, reads-waiting}

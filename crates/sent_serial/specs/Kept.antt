@@ -1,11 +1,18 @@
 -- What readers of serial messages have kept of the statuses that they have seen; this project's own.
-use Rattle.std.specs.Prelude.{◌≡◌, ℕ, suc, ◌^◌, ◌<◌, ◌≤◌, true, false, List, [], ◌∷◌, length, map, slice_index}
+use Rattle.std.specs.Prelude.{◌≡◌, ℕ, suc, ◌^◌, ◌<◌, ◌≤◌, true, false, List, [], ◌∷◌, ◌++◌, length, map, slice_index}
 use Rattle.link_math.specs.Division.{number_of}
+use Rattle.sent_serial.specs.declared.step.SerialStep.{SerialStep}
 use Rattle.sent_serial.specs.declared.short.ShortState.{ShortState}
 use Rattle.sent_serial.specs.declared.short.ShortState.TheVariants.{Outside, Within}
 use Rattle.sent_serial.specs.declared.enhanced.EnhancedState.{EnhancedState}
 use Rattle.sent_serial.specs.declared.enhanced.EnhancedState.TheVariants as enhanced
 use Rattle.sent_serial.specs.Statuses.{start_bit, value_bit, clear_before, set_before}
+
+-- the next status leads from what is kept to these steps, and what is kept then agrees
+pub record Leads (reading : List ℕ → List SerialStep) (agrees : List ℕ → Type 0) (kept : List ℕ) (status : ℕ) (steps : List SerialStep) : Type 0 where
+  pub rest : List ℕ
+  pub agreed : agrees rest
+  pub each : (more : List ℕ) → reading (kept ++ status ∷ more) ≡ steps ++ reading (rest ++ more)
 
 -- these statuses are the first so many of a short message, and these are their value bits
 pub record IsShortFront (taken bits : ℕ) (kept : List ℕ) : Type 0 where
@@ -68,9 +75,3 @@ pub record IsEnhancedCount (taken values starts : ℕ) : Type 0 where
 abbrev pub IsEnhancedState : EnhancedState → Type 0
 IsEnhancedState (enhanced.Searching run bits) = IsRunCount run bits
 IsEnhancedState (enhanced.Within taken values starts) = IsEnhancedCount taken values starts
-
--- these eighteen statuses have these value bits and start bits
-pub record HasBits (statuses : List ℕ) (values starts : ℕ) : Type 0 where
-  pub as_many : length statuses ≡ 18
-  pub value_bits : number_of (map value_bit statuses) ≡ values
-  pub start_bits : number_of (map start_bit statuses) ≡ starts

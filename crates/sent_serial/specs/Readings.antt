@@ -1,5 +1,5 @@
 -- How a list of statuses is read from its front; this project's own.
-use Rattle.std.specs.Prelude.{◌≡◌, ℕ, zero, suc, List, [], ◌∷◌, ◌++◌}
+use Rattle.std.specs.Prelude.{ℕ, zero, suc, List, [], ◌∷◌}
 use Rattle.sent_serial.specs.declared.step.SerialStep.{SerialStep}
 use Rattle.sent_serial.specs.declared.step.SerialStep.TheVariants.{Nothing, Short, Enhanced, Bad}
 
@@ -27,9 +27,3 @@ steps_of Nothing = []
 steps_of (Short id value) = Short id value ∷ []
 steps_of (Enhanced id value wide) = Enhanced id value wide ∷ []
 steps_of (Bad rule) = Bad rule ∷ []
-
--- the next status leads from what is kept to these steps, and what is kept then agrees
-pub record Leads (reading : List ℕ → List SerialStep) (agrees : List ℕ → Type 0) (kept : List ℕ) (status : ℕ) (steps : List SerialStep) : Type 0 where
-  pub rest : List ℕ
-  pub agreed : agrees rest
-  pub each : (more : List ℕ) → reading (kept ++ status ∷ more) ≡ steps ++ reading (rest ++ more)

@@ -12,6 +12,15 @@ use crate::status::has_bit;
 use crate::step::SerialStep;
 use link_math::crc6;
 
+/// The start bits of a short message: that of the first frame is set.
+const SHORT_STARTS: u32 = 0x8000;
+
+/// The start bits of an enhanced message that are always set, those of frames 1 to 6.
+const RUN_STARTS: u32 = 0x3F000;
+
+/// The start bit of frame 8 of an enhanced message, the form bit.
+const FORM_START: u32 = 0x400;
+
 /// The status that has this value bit and this start bit, and no other bit set.
 fn status_of(value: bool, start: bool) -> u8
     ensures value { value_bit result ≡ value }
@@ -36,8 +45,8 @@ fn spread(statuses: &mut [u8], values: u32, starts: u32)
     }
 }
 
-/// The statuses of the short message of this ID, 0 to 15, and this value, 0 to 255: the frames' start bits
-/// and value bits, and zeros in bits 1 and 0.
+/// The sixteen statuses of the short message of this ID, 0 to 15, and this value, 0 to 255, with bits 1 and
+/// 0 clear.
 pub fn short_bits(id: u8, value: u8) -> [u8; 16]
     requires { id < 16 }
     ensures read_alone { short_reading result ≡ SerialStep.Short id value ∷ [] }
@@ -46,30 +55,30 @@ pub fn short_bits(id: u8, value: u8) -> [u8; 16]
     let check = check_of(id, value);
     let bits = 0x1000 * u32::from(id) + 0x10 * u32::from(value) + u32::from(check);
     let mut statuses = [0; 16];
-    spread(&mut statuses, bits, 0x8000);
+    spread(&mut statuses, bits, SHORT_STARTS);
     statuses
 }
 
-/// The statuses of the enhanced message that has these start bits in its frames 8 to 18, 0 in frames 13 and
-/// 18, and these value bits in its frames 7 to 18.
+/// The statuses of the enhanced message that has these start bits in its frames 8 to 18, those of frames 13
+/// and 18 clear, and these value bits in its frames 7 to 18, those of the last frame lowest.
 fn message(starts: u32, values: u32) -> [u8; 18]
     requires starts { starts < 0x800 }
     requires zero_13 { starts / 0x20 % 2 ≡ 0 }
     requires zero_18 { starts % 2 ≡ 0 }
     requires values { values < 0x1000 }
-    ensures message { IsMessageOf result (0x3F000 + starts) values }
+    ensures message { IsMessageOf result (RUN_STARTS + starts) values }
     ensures two_bits { All HasTwoBits result }
 {
-    let starts = 0x3F000 + starts;
+    let starts = RUN_STARTS + starts;
     let check = crc6(&checked(values, starts));
     let mut statuses = [0; 18];
     spread(&mut statuses, 0x1000 * u32::from(check) + values, starts);
     statuses
 }
 
-/// The statuses of an enhanced message: where it is wide, of an ID of 0 to 15 and a value of 0 to 65,535,
-/// else of an ID of 0 to 255 and a value of 0 to 4,095. They are the frames' start bits and value bits, and
-/// zeros in bits 1 and 0.
+/// The eighteen statuses of the enhanced message of this ID and this value, with bits 1 and 0 clear: where
+/// it is wide, an ID of 0 to 15 and a value of 0 to 65,535, else an ID of 0 to 255 and a value of 0 to
+/// 4,095.
 pub fn enhanced_bits(id: u8, value: u16, wide: bool) -> [u8; 18]
     requires { FitsMessage id value wide }
     ensures read_alone { enhanced_reading result ≡ SerialStep.Enhanced id value wide ∷ [] }
@@ -78,7 +87,10 @@ pub fn enhanced_bits(id: u8, value: u16, wide: bool) -> [u8; 18]
     let id = u32::from(id);
     let value = u32::from(value);
     if wide {
-        message(0x400 + 0x40 * id + 2 * (value / 0x1000), value % 0x1000)
+        message(
+            FORM_START + 0x40 * id + 2 * (value / 0x1000),
+            value % 0x1000,
+        )
     } else {
         message(0x40 * (id / 0x10) + 2 * (id % 0x10), value)
     }

@@ -3,9 +3,10 @@
 ghost use Rattle.std.specs.Prelude.{◌≡◌, ◌^◌, ◌<◌, ◌++◌, [], ◌∷◌, List, ℕ, true, false, nat_eq, ◌/◌, ◌%◌};
 ghost use Rattle.link_math.specs.Division.{bits_of};
 ghost use Rattle.sent_serial.specs.Statuses.{merged, start_bit};
-ghost use Rattle.sent_serial.specs.Readings.{Leads, steps_of};
+ghost use Rattle.sent_serial.specs.Readings.{steps_of};
 ghost use Rattle.sent_serial.specs.Enhanced.{enhanced_content, enhanced_message, enhanced_reading};
-ghost use Rattle.sent_serial.specs.Kept.{AgreesEnhanced, HasBits, IsEnhancedState};
+ghost use Rattle.sent_serial.specs.Kept.{AgreesEnhanced, IsEnhancedState, Leads};
+ghost use Rattle.sent_serial.specs.Messages.{HasBits};
 
 use crate::status::{has_bit, has_start, has_value};
 use crate::step::SerialStep;
@@ -13,8 +14,11 @@ use line_base::Rule;
 use link_math::crc6;
 use std::marker::Model;
 
-/// How many frames with a set start bit an enhanced message begins with (SAE J2716).
+/// How many set start bits an enhanced message begins with, before a clear one (SAE J2716).
 const RUN: u8 = 6;
+
+/// The start bits of frames 1 to 7.
+const FIRST_SEVEN: u32 = 0b1111110;
 
 /// How many frames come before frame 13, whose start bit is 0 (SAE J2716).
 const BEFORE_13: u8 = 12;
@@ -75,7 +79,14 @@ pub fn checked(values: u32, starts: u32) -> [bool; 24]
     bits
 }
 
-/// What a message says that has these value bits and start bits and a right CRC.
+// The start bits of a message, F the form bit:
+//
+//     frame      1     6  7  8  9    12  13  14   17  18
+//     start bit  111111   0  F  id       0   id       0     F = 0: an ID of 8 bits
+//     start bit  111111   0  F  id       0   value    0     F = 1: the highest four of 16 value bits
+
+/// What a message says that has these value bits and start bits, those of the last frame lowest, and a
+/// right CRC.
 fn content_of(values: u32, starts: u32) -> SerialStep
     ensures { (statuses : List ℕ) → HasBits statuses values starts → result ≡ enhanced_content statuses }
 {
@@ -98,7 +109,7 @@ fn content_of(values: u32, starts: u32) -> SerialStep
     }
 }
 
-/// What a message of these value bits and start bits says, those of the last frame lowest.
+/// What a message says that has these value bits and start bits, those of the last frame lowest.
 fn message_of(values: u32, starts: u32) -> SerialStep
     ensures { (statuses : List ℕ) → HasBits statuses values starts → result ≡ enhanced_message statuses }
 {
@@ -110,7 +121,7 @@ fn message_of(values: u32, starts: u32) -> SerialStep
     }
 }
 
-/// Where a search stands after a frame whose start bit is set and that follows no other of these.
+/// Where a search stands that begins at a frame of this status, whose start bit is set.
 fn begun(status: u8) -> EnhancedState
     ensures valid { IsEnhancedState result }
     ensures agrees { start_bit status ≡ true → AgreesEnhanced result (status ∷ []) }
@@ -121,7 +132,8 @@ fn begun(status: u8) -> EnhancedState
     }
 }
 
-/// Where a search stands after the next status, where it had so many set start bits, with these value bits.
+/// Where a search stands after the next status, where the last `run` frames, 0 to 6, have their start bits
+/// set and these value bits.
 fn searched(run: u8, bits: u8, status: u8) -> EnhancedState
     requires valid { IsEnhancedState (EnhancedState.Searching run bits) }
     ensures valid { IsEnhancedState result }
@@ -146,11 +158,12 @@ fn searched(run: u8, bits: u8, status: u8) -> EnhancedState
     EnhancedState::Within {
         taken: 7,
         values: u32::from(longer),
-        starts: 0b1111110,
+        starts: FIRST_SEVEN,
     }
 }
 
-/// What a message has come to after the next status, where it had so many frames, with these bits.
+/// What a reader has kept after the next status, and what it answers, where `taken` frames of a message, 7
+/// to 17, have these value bits and start bits.
 fn continued(taken: u8, values: u32, starts: u32, status: u8) -> (EnhancedState, SerialStep)
     requires valid { IsEnhancedState (EnhancedState.Within taken values starts) }
     ensures valid { IsEnhancedState result.0 }

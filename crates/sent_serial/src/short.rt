@@ -3,9 +3,9 @@ ghost use Rattle.std.specs.Prelude.{◌≡◌, ◌/◌, ◌%◌, ◌<◌, ◌++�
 ghost use Rattle.link_math.specs.Checks.{crc4_of};
 ghost use Rattle.link_math.specs.Division.{bits_of};
 ghost use Rattle.sent_serial.specs.Statuses.{start_bit};
-ghost use Rattle.sent_serial.specs.Readings.{Leads, steps_of};
+ghost use Rattle.sent_serial.specs.Readings.{steps_of};
 ghost use Rattle.sent_serial.specs.Short.{short_message, short_reading};
-ghost use Rattle.sent_serial.specs.Kept.{AgreesShort, IsShortState};
+ghost use Rattle.sent_serial.specs.Kept.{AgreesShort, IsShortState, Leads};
 
 use crate::status::{has_start, has_value};
 use crate::step::SerialStep;
@@ -49,7 +49,7 @@ impl Model for ShortReader {
     ghost invariant = { λ r. IsShortState r.state };
 }
 
-/// The CRC of a message of this ID, 0 to 15, and this value.
+/// The CRC, 0 to 15, of a message of this ID, 0 to 15, and this value.
 pub fn check_of(id: u8, value: u8) -> u8
     requires { id < 16 }
     ensures value { result ≡ crc4_of (id ∷ value / 16 ∷ value % 16 ∷ []) }
@@ -58,7 +58,7 @@ pub fn check_of(id: u8, value: u8) -> u8
     crc4(&[id, value / 16, value % 16])
 }
 
-/// What a message of these sixteen value bits says, the last one lowest.
+/// What a message of these sixteen value bits says, that of the last frame lowest.
 fn message_of(bits: u16) -> SerialStep
     ensures { result ≡ short_message (bits_of 16 bits) }
 {
@@ -72,7 +72,8 @@ fn message_of(bits: u16) -> SerialStep
     }
 }
 
-/// The next frame of a message that has so many, 1 to 15, with these value bits; its start bit is clear.
+/// What a reader has kept after the next status, whose start bit is clear, and what it answers, where
+/// `taken` frames of a message, 1 to 15, have these value bits.
 fn continued(taken: u8, bits: u16, status: u8) -> (ShortState, SerialStep)
     requires valid { IsShortState (ShortState.Within taken bits) }
     requires clear { start_bit status ≡ false }
