@@ -4,12 +4,12 @@
 --     number_of-later      the number without its highest bit
 --     number_of-bits_of      the number of the lowest bits
 --     number_of-bits_of-field      and of some of these
-use Rattle.std.proofs.Common.{◌≡◌, ℕ, zero, suc, ◌+◌, ◌-◌, ◌*◌, ◌/◌, ◌%◌, ◌^◌, ◌<◌, ◌≤◌, Bool, true, false, nat_eq, List, [], ◌∷◌, ◌++◌, length, take, drop, refl, sym, ◌∙◌, ap, ap₂, arith, if◌then◌else◌}
-use Rattle.std.proofs.lemmas.List.{drop-take, length-append, length-drop, length-take-le, take-append-drop}
+use Rattle.std.proofs.Common.{◌≡◌, ℕ, zero, suc, ◌+◌, ◌*◌, ◌/◌, ◌%◌, ◌^◌, ◌<◌, ◌≤◌, Bool, nat_eq, List, [], ◌∷◌, ◌++◌, length, take, drop, refl, sym, ◌∙◌, ap, ap₂, arith, if◌then◌else◌}
+use Rattle.std.proofs.lemmas.List.{length-append, length-drop, length-take-le, take-append-drop}
 use Rattle.std.proofs.Math.Nat.{mod-eq_of_lt}
 use Rattle.std.proofs.lemmas.Nat.{mod-mul-add, mod-pow-add, pow-add, shr_high}
 use Rattle.link_math.specs.Division.{bits_of, number_of}
-use Rattle.link_math.proofs.BitLists.{bits_of-number_of, length-bits_of, number_of-below}
+use Rattle.link_math.proofs.BitLists.{length-bits_of, number_of-below}
 
 pub number_of-append : (front back : List Bool) → number_of (front ++ back) ≡ number_of front * 2 ^ length back + number_of back
 unfolding number_of
@@ -29,9 +29,9 @@ number_of-middle : (front middle back : List Bool) → number_of (front ++ (midd
 number_of-middle front middle back =
     let upper = number_of front * 2 ^ length middle + number_of middle in
     let whole : number_of (front ++ (middle ++ back)) ≡ upper * 2 ^ length back + number_of back =
-        number_of-append front (middle ++ back)
-        ∙ ap₂ (λ power rest. number_of front * power + rest) (ap (λ n. 2 ^ n) (length-append middle back) ∙ pow-add 2 (length middle) (length back)) (number_of-append middle back)
-        ∙ omega arith in
+    number_of-append front (middle ++ back)
+    ∙ ap₂ (λ power rest. number_of front * power + rest) (ap (λ n. 2 ^ n) (length-append middle back) ∙ pow-add 2 (length middle) (length back)) (number_of-append middle back)
+    ∙ omega arith in
     ap (λ n. n / 2 ^ length back % 2 ^ length middle) whole
     ∙ ap (λ n. n % 2 ^ length middle) (shr_high upper (length back) (number_of back) (number_of-below back))
     ∙ mod-mul-add (number_of front) (2 ^ length middle) (number_of middle) (number_of-below middle)

@@ -79,11 +79,11 @@ pub fn checked(values: u32, starts: u32) -> [bool; 24]
     bits
 }
 
-// The start bits of a message, F the form bit:
+// The start bits of a message; the form bit, that of frame 8, says what those of frames 14 to 17 are:
 //
-//     frame      1     6  7  8  9    12  13  14   17  18
-//     start bit  111111   0  F  id       0   id       0     F = 0: an ID of 8 bits
-//     start bit  111111   0  F  id       0   value    0     F = 1: the highest four of 16 value bits
+//     frame      1 to 6  7  8  9 to 12  13  14 to 17  18
+//     start bit  111111  0  0  ID        0  ID         0    an ID of 8 bits and a value of 12
+//     start bit  111111  0  1  ID        0  value      0    an ID of 4 bits and a value of 16
 
 /// What a message says that has these value bits and start bits, those of the last frame lowest, and a
 /// right CRC.
