@@ -1,3 +1,4 @@
+pub mod Serials
 pub mod SentReports
 pub mod SentStretches
 pub mod OpenStretches
@@ -5,3 +6,4 @@ pub mod Links
 pub mod ReportFronts
 pub mod Takeable
 pub mod Tallies
+pub mod NoGaps

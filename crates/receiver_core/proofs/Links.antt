@@ -9,6 +9,7 @@ use Rattle.sent_frame.specs.Reading.{sent_reading, reports_past}
 use Rattle.sent_fast.specs.declared.layout.Layout.{Layout}
 use Rattle.receiver_core.specs.declared.report.Report.{Report}
 use Rattle.receiver_core.specs.declared.report.What.TheVariants as what
+use Rattle.receiver_core.specs.declared.setup.Serial.{Serial}
 use Rattle.receiver_core.specs.declared.setup.ChannelSetup.{ChannelSetup}
 use Rattle.receiver_core.specs.declared.setup.ChannelSetup.TheVariants.{Sent}
 use Rattle.receiver_core.specs.declared.sent_channel.SentChannel.{SentChannel}
@@ -24,46 +25,51 @@ use Rattle.receiver_core.proofs.OpenStretches.{counted-more, open_stretch-more, 
 
 -- the edge adds these reports to those of any edges that the channel stands for
 abbrev pub Adds : SentChannel → ℕ → Edge → List Report → Type 0
-Adds channel number edge answers = (s : Settings) (layout : Layout) (seen : List NumberedEdge) → StandsForStretch s layout channel seen
-    → sent_reports layout None (sent_reading s (seen ++ record { number = number; edge = edge } ∷ [])) ≡ sent_reports layout None (sent_reading s seen) ++ answers
+Adds channel number edge answers = (s : Settings) (layout : Layout) (serial : Serial) (seen : List NumberedEdge) → StandsForStretch s layout serial channel seen
+    → sent_reports layout serial None [] (sent_reading s (seen ++ record { number = number; edge = edge } ∷ [])) ≡ sent_reports layout serial None [] (sent_reading s seen) ++ answers
 
 -- an edge adds to the open ones what it adds to the stretch
 pub edge-adds : (setup : ChannelSetup) (number : ℕ) (channel : SentChannel) (stretch : Option (List NumberedEdge)) (edge : Edge) (answers : List Report)
     → LinkStandsFor setup (link.Sent channel) stretch → Adds channel number edge answers
     → resumed setup number stretch (item.Edge edge ∷ []) ≡ resumed setup number stretch [] ++ answers
 unfolding reports_from stretch_reports
-edge-adds (Sent line s layout) number channel None edge answers stands adds = absurd stands
-edge-adds (Sent line s layout) number channel (Some seen) edge answers stands adds = adds s layout seen stands
+edge-adds (Sent line s layout serial) number channel None edge answers stands adds = absurd stands
+edge-adds (Sent line s layout serial) number channel (Some seen) edge answers stands adds = adds s layout serial seen stands
 
-none-reported : (s : Settings) (layout : Layout) → sent_reports layout None (sent_reading s []) ≡ []
+none-reported : (s : Settings) (layout : Layout) (serial : Serial) → sent_reports layout serial None [] (sent_reading s []) ≡ []
 unfolding sent_reports reports_past
-none-reported s layout = refl
+none-reported s layout serial = refl
 
 -- no edges have no reports
 pub stretch-none : (setup : ChannelSetup) → stretch_reports setup [] ≡ []
 unfolding stretch_reports
-stretch-none (Sent line s layout) = none-reported s layout
+stretch-none (Sent line s layout serial) = none-reported s layout serial
 
 -- a gap adds its report
 pub gap-adds : (setup : ChannelSetup) (number : ℕ) (channel : SentChannel) (stretch : Option (List NumberedEdge)) (first count : ℕ)
     → LinkStandsFor setup (link.Sent channel) stretch
     → resumed setup number stretch (item.Gap first count ∷ []) ≡ resumed setup number stretch [] ++ report first (what.Gap count) ∷ []
 unfolding reports_from
-gap-adds (Sent line s layout) number channel None first count stands = absurd stands
-gap-adds (Sent line s layout) number channel (Some seen) first count stands =
-    ap (λ l. stretch_reports (Sent line s layout) seen ++ report first (what.Gap count) ∷ l) (stretch-none (Sent line s layout))
+gap-adds (Sent line s layout serial) number channel None first count stands = absurd stands
+gap-adds (Sent line s layout serial) number channel (Some seen) first count stands =
+    ap (λ l. stretch_reports (Sent line s layout serial) seen ++ report first (what.Gap count) ∷ l) (stretch-none (Sent line s layout serial))
 
 -- the end adds no report
-pub end-adds : (setup : ChannelSetup) (number : ℕ) (stretch : Option (List NumberedEdge)) → resumed setup number stretch (item.End ∷ []) ≡ resumed setup number stretch [] ++ []
+pub end-adds : (setup : ChannelSetup) (number : ℕ) (stretch : Option (List NumberedEdge)) → resumed setup number stretch (item.End ∷ []) ≡ resumed setup number stretch []
 unfolding reports_from end_reports
 end-adds setup number None = refl
-end-adds (Sent line s layout) number (Some seen) = refl
+end-adds (Sent line s layout serial) number (Some seen) = append-nil (stretch_reports (Sent line s layout serial) seen)
 
 -- a cut adds no report
-pub cut-adds : (setup : ChannelSetup) (number : ℕ) (stretch : Option (List NumberedEdge)) → resumed setup number stretch (item.Cut ∷ []) ≡ resumed setup number stretch [] ++ []
+pub cut-adds : (setup : ChannelSetup) (number : ℕ) (stretch : Option (List NumberedEdge)) → resumed setup number stretch (item.Cut ∷ []) ≡ resumed setup number stretch []
 unfolding reports_from
 cut-adds setup number None = refl
-cut-adds setup number (Some seen) = sym (append-nil (stretch_reports setup seen))
+cut-adds setup number (Some seen) = refl
+
+-- an item that changes no report adds none
+pub no-more : (setup : ChannelSetup) (number : ℕ) (stretch : Option (List NumberedEdge)) (taken : Item)
+    → resumed setup number stretch (taken ∷ []) ≡ resumed setup number stretch [] → resumed setup number stretch (taken ∷ []) ≡ resumed setup number stretch [] ++ []
+no-more setup number stretch taken e = e ∙ sym (append-nil (resumed setup number stretch []))
 
 -- a receiver with so many edges more, whose link stands for the open edges with the item, stands for the item as well
 pub receiver-more : (setup : ChannelSetup) (old : Receiver) (number : ℕ) (next : Link) (seen : List Item) (taken : Item)

@@ -10,7 +10,7 @@ use Rattle.sent_frame.proofs.Prefixes.{front-cons, reading-front}
 use Rattle.receiver_core.specs.declared.report.What.TheVariants as what
 use Rattle.receiver_core.specs.declared.setup.ChannelSetup.{ChannelSetup}
 use Rattle.receiver_core.specs.declared.setup.ChannelSetup.TheVariants.{Sent}
-use Rattle.receiver_core.specs.SentReports.{report, sent_reports, watch_past}
+use Rattle.receiver_core.specs.SentReports.{report, sent_reports, watch_past, statuses_past}
 use Rattle.receiver_core.specs.Channels.{stretch_reports, end_reports, reports_from, so_far, final}
 use Rattle.receiver_core.proofs.SentReports.{sent_reports-append}
 use Rattle.receiver_core.proofs.Links.{stretch-none}
@@ -23,11 +23,11 @@ so_far-none setup = stretch-none setup
 -- the reports of a stretch are a front of those of a longer one
 pub stretch-front : (setup : ChannelSetup) (stretch more : List NumberedEdge) → IsFrontOf (stretch_reports setup stretch) (stretch_reports setup (stretch ++ more))
 unfolding stretch_reports
-stretch-front (Sent line s layout) stretch more =
+stretch-front (Sent line s layout serial) stretch more =
     let steps = reading-front s stretch more in
     record {
-      rest = sent_reports layout (watch_past layout None (sent_reading s stretch)) steps.rest;
-      is = ap (sent_reports layout None) steps.is ∙ sent_reports-append layout None (sent_reading s stretch) steps.rest;
+      rest = sent_reports layout serial (watch_past layout None (sent_reading s stretch)) (statuses_past [] (sent_reading s stretch)) steps.rest;
+      is = ap (sent_reports layout serial None []) steps.is ∙ sent_reports-append layout serial None [] (sent_reading s stretch) steps.rest;
     }
 
 stretch-first : (setup : ChannelSetup) (number : ℕ) (stretch : List NumberedEdge) (more : List Item) → IsFrontOf (stretch_reports setup stretch) (reports_from setup number stretch more)

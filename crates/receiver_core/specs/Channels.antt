@@ -20,11 +20,11 @@ edges_counted (item.Cut ∷ items) = edges_counted items
 
 -- the reports of a stretch of edges, which no gap parts
 unfoldable pub stretch_reports : ChannelSetup → List NumberedEdge → List Report
-stretch_reports (Sent line setup layout) edges = sent_reports layout None (sent_reading setup edges)
+stretch_reports (Sent line setup layout serial) edges = sent_reports layout serial None [] (sent_reading setup edges)
 
 -- the reports that the end adds to those of the last stretch: none for SENT
 unfoldable pub end_reports : ChannelSetup → List NumberedEdge → List Report
-end_reports (Sent line setup layout) edges = []
+end_reports (Sent line setup layout serial) edges = []
 
 -- the reports of the last edges since a gap and of these items, which come after so many edges: each stretch is read from its start, each gap is told between two, and nothing is read after an end
 unfoldable pub reports_from : ChannelSetup → ℕ → List NumberedEdge → List Item → List Report

@@ -1,4 +1,5 @@
 pub mod Setups
+pub mod Serials
 pub mod SentReports
 pub mod SentStretches
 pub mod Channels

@@ -1,5 +1,5 @@
--- Which reports a SENT channel gives of what its reader ends (counter: SAE J2716; order and resets: this project's own).
-use Rattle.std.specs.Prelude.{ℕ, ◌+◌, ◌%◌, ◌==◌, List, [], ◌∷◌, ◌++◌, Option, None, Some, Result, Ok, Err, if◌then◌else◌}
+-- Which reports a SENT channel gives of what its reader ends (counter and serial messages: SAE J2716; order and resets: this project's own).
+use Rattle.std.specs.Prelude.{ℕ, ◌+◌, ◌%◌, ◌<◌, ◌==◌, flat_map, List, [], ◌∷◌, ◌++◌, Option, None, Some, Result, Ok, Err, if◌then◌else◌}
 use Rattle.line_base.specs.declared.rule.Rule.{Rule}
 use Rattle.sent_frame.specs.declared.frame.SentStep.{SentStep}
 use Rattle.sent_frame.specs.declared.frame.SentStep.TheVariants.{Nothing, Good, Bad}
@@ -7,6 +7,10 @@ use Rattle.sent_fast.specs.declared.layout.Layout.{Layout}
 use Rattle.sent_fast.specs.declared.layout.Fast.{Fast}
 use Rattle.sent_fast.specs.declared.layout.Fast.TheVariants as fast
 use Rattle.sent_fast.specs.Layouts.{FitsLayout, fast_of}
+use Rattle.sent_serial.specs.declared.step.SerialStep.{SerialStep}
+use Rattle.sent_serial.specs.declared.step.SerialStep.TheVariants as serial
+use Rattle.receiver_core.specs.declared.setup.Serial.{Serial}
+use Rattle.receiver_core.specs.Serials.{serial_steps}
 use Rattle.receiver_core.specs.declared.report.Report.{Report}
 use Rattle.receiver_core.specs.declared.report.What.{What}
 use Rattle.receiver_core.specs.declared.report.What.TheVariants as what
@@ -38,11 +42,23 @@ watch_after before (Ok (fast.Two a b)) = before
 watch_after before (Ok (fast.Secure a counter)) = Some counter
 watch_after before (Ok (fast.Split a b)) = before
 
--- the reports of one step of the reader, all at its place: a good frame, then what its nibbles say; or the rule that is broken
-abbrev pub step_reports : Layout → Option ℕ → SentStep → List Report
-step_reports layout before Nothing = []
-step_reports layout before (Good place frame) = report place (what.Frame frame) ∷ value_reports place before (fast_of layout frame.nibbles)
-step_reports layout before (Bad place rule) = report place (what.Bad rule) ∷ []
+-- the report of a step of the serial messages, at this place; nothing where there is none
+abbrev pub serial_report : ℕ → SerialStep → List Report
+serial_report place serial.Nothing = []
+serial_report place (serial.Short id value) = report place (what.Short id value) ∷ []
+serial_report place (serial.Enhanced id value wide) = report place (what.Enhanced id value wide) ∷ []
+serial_report place (serial.Bad rule) = report place (what.Bad rule) ∷ []
+
+-- the reports of the steps by which the serial messages of these statuses grow with one status more
+abbrev pub serial_reports : Serial → ℕ → List ℕ → ℕ → List Report
+serial_reports serial place before status = flat_map (serial_report place) (serial_steps serial before status)
+
+-- the reports of one step of the reader, all at its place: a good frame, then what its nibbles say, then what its status ends; or the rule that is broken
+abbrev pub step_reports : Layout → Serial → Option ℕ → List ℕ → SentStep → List Report
+step_reports layout serial before statuses Nothing = []
+step_reports layout serial before statuses (Good place frame) =
+    report place (what.Frame frame) ∷ (value_reports place before (fast_of layout frame.nibbles) ++ serial_reports serial place statuses frame.status)
+step_reports layout serial before statuses (Bad place rule) = report place (what.Bad rule) ∷ []
 
 -- the counter of the last frame, after one step of the reader: none after a broken rule
 abbrev pub watch_past_step : Layout → Option ℕ → SentStep → Option ℕ
@@ -50,18 +66,30 @@ watch_past_step layout before Nothing = before
 watch_past_step layout before (Good place frame) = watch_after before (fast_of layout frame.nibbles)
 watch_past_step layout before (Bad place rule) = None
 
--- the reports of steps of the reader, where the frame before them had this counter
-unfoldable pub sent_reports : Layout → Option ℕ → List SentStep → List Report
-sent_reports layout before [] = []
-sent_reports layout before (step ∷ steps) = step_reports layout before step ++ sent_reports layout (watch_past_step layout before step) steps
+-- the statuses of the good frames since the last break, after one step of the reader: none after a broken rule
+abbrev pub statuses_past_step : List ℕ → SentStep → List ℕ
+statuses_past_step statuses Nothing = statuses
+statuses_past_step statuses (Good place frame) = statuses ++ frame.status ∷ []
+statuses_past_step statuses (Bad place rule) = []
+
+-- the reports of steps of the reader, where the frame before them had this counter, and the frames since the last break these statuses
+unfoldable pub sent_reports : Layout → Serial → Option ℕ → List ℕ → List SentStep → List Report
+sent_reports layout serial before statuses [] = []
+sent_reports layout serial before statuses (step ∷ steps) =
+    step_reports layout serial before statuses step ++ sent_reports layout serial (watch_past_step layout before step) (statuses_past_step statuses step) steps
 
 -- the counter of the last frame, after these steps of the reader
 unfoldable pub watch_past : Layout → Option ℕ → List SentStep → Option ℕ
 watch_past layout before [] = before
 watch_past layout before (step ∷ steps) = watch_past layout (watch_past_step layout before step) steps
 
--- a frame that the step reports has as many nibbles as the layout
+-- the statuses of the good frames since the last break, after these steps of the reader
+unfoldable pub statuses_past : List ℕ → List SentStep → List ℕ
+statuses_past statuses [] = statuses
+statuses_past statuses (step ∷ steps) = statuses_past (statuses_past_step statuses step) steps
+
+-- a frame that the step reports has a status below 16 and as many nibbles as the layout
 abbrev pub IsReadable : Layout → SentStep → Type 0
 IsReadable layout Nothing = Unit {0}
-IsReadable layout (Good place frame) = FitsLayout layout frame.nibbles
+IsReadable layout (Good place frame) = (frame.status < 16) × FitsLayout layout frame.nibbles
 IsReadable layout (Bad place rule) = Unit {0}

@@ -17,11 +17,11 @@ nibbles_fit layout.Split16x8 nibbles = nibbles == 6
 
 -- the line that a channel reads
 abbrev pub line_of : ChannelSetup → ℕ
-line_of (Sent line setup layout) = line
+line_of (Sent line setup layout serial) = line
 
 -- the first fault of a setup: a line above 15, then a layout that hasn't the frame's number of nibbles
 abbrev pub setup_fault_of : ChannelSetup → Option SetupFault
-setup_fault_of (Sent line setup layout) =
+setup_fault_of (Sent line setup layout serial) =
     if nat_lt 15 line then Some fault.Lines
     else (if not (nibbles_fit layout setup.nibbles) then Some fault.Layout
     else None)

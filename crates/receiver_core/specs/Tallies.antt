@@ -1,5 +1,5 @@
 -- What is counted of a channel's reports; this project's own.
-use Rattle.std.specs.Prelude.{ℕ, ◌+◌, ◌^◌, ◌<◌, Bool, true, false, List, count_by, sum_by, if◌then◌else◌}
+use Rattle.std.specs.Prelude.{◌≡◌, ℕ, ◌+◌, ◌^◌, ◌<◌, Bool, true, false, List, [], ◌∷◌, count_by, sum_by, if◌then◌else◌}
 use Rattle.receiver_core.specs.declared.report.Report.{Report}
 use Rattle.receiver_core.specs.declared.report.What.{What}
 use Rattle.receiver_core.specs.declared.report.What.TheVariants as what
@@ -10,6 +10,8 @@ abbrev pub is_good : What → Bool
 is_good (what.Frame frame) = true
 is_good (what.Fast value) = false
 is_good (what.Counter before now) = false
+is_good (what.Short id value) = false
+is_good (what.Enhanced id value wide) = false
 is_good (what.Bad rule) = false
 is_good (what.Gap count) = false
 
@@ -18,14 +20,18 @@ abbrev pub is_bad : What → Bool
 is_bad (what.Frame frame) = false
 is_bad (what.Fast value) = false
 is_bad (what.Counter before now) = true
+is_bad (what.Short id value) = false
+is_bad (what.Enhanced id value wide) = false
 is_bad (what.Bad rule) = true
 is_bad (what.Gap count) = false
 
--- it says a serial message: no report does yet
+-- it says a serial message
 abbrev pub is_message : What → Bool
 is_message (what.Frame frame) = false
 is_message (what.Fast value) = false
 is_message (what.Counter before now) = false
+is_message (what.Short id value) = true
+is_message (what.Enhanced id value wide) = true
 is_message (what.Bad rule) = false
 is_message (what.Gap count) = false
 
@@ -34,6 +40,8 @@ abbrev pub is_gap : What → Bool
 is_gap (what.Frame frame) = false
 is_gap (what.Fast value) = false
 is_gap (what.Counter before now) = false
+is_gap (what.Short id value) = false
+is_gap (what.Enhanced id value wide) = false
 is_gap (what.Bad rule) = false
 is_gap (what.Gap count) = true
 
@@ -42,6 +50,8 @@ abbrev pub lost_in : What → ℕ
 lost_in (what.Frame frame) = 0
 lost_in (what.Fast value) = 0
 lost_in (what.Counter before now) = 0
+lost_in (what.Short id value) = 0
+lost_in (what.Enhanced id value wide) = 0
 lost_in (what.Bad rule) = 0
 lost_in (what.Gap count) = count
 
@@ -72,3 +82,8 @@ pub record HasRoom (tally : Tally) : Type 0 where
   pub messages : tally.messages < 2 ^ 64
   pub gaps : tally.gaps < 2 ^ 64
   pub lost : tally.lost < 2 ^ 64
+
+-- none of these reports tells of a gap, or of lost edges
+abbrev pub TellNoGap : List Report → Type 0
+TellNoGap [] = Unit {0}
+TellNoGap (report ∷ reports) = (lost_in report.what ≡ 0) × (is_gap report.what ≡ false) × TellNoGap reports

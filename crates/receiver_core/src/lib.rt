@@ -8,6 +8,7 @@
 mod receiver;
 mod report;
 mod sent_channel;
+mod serial;
 mod setup;
 mod tally;
 #[cfg(test)]
@@ -15,5 +16,5 @@ mod tests;
 
 pub use receiver::Receiver;
 pub use report::{Report, What};
-pub use setup::ChannelSetup;
+pub use setup::{ChannelSetup, Serial};
 pub use tally::Tally;

@@ -41,33 +41,39 @@ impl Link {
         ensures { LinkStandsFor setup result (Some []) }
     {
         match setup {
-            ChannelSetup::Sent { setup, layout, .. } => Link::Sent(SentChannel::new(setup, layout)),
+            ChannelSetup::Sent {
+                setup,
+                layout,
+                serial,
+                ..
+            } => Link::Sent(SentChannel::new(setup, layout, serial)),
         }
     }
 
-    /// Takes the next edge, with its number in the channel.
-    fn edge(&mut self, number: u64, edge: Edge) -> ArrayVec<Report, 8>
+    /// Takes the next edge, with its number in the channel, and adds its reports to none.
+    fn edge(&mut self, number: u64, edge: Edge, reports: &mut ArrayVec<Report, 8>)
         requires in_range { edge.time ≤ 10 ^ 15 }
+        requires empty { reports.old.items ≡ [] }
         requires stands { (setup : ChannelSetup) × (stretch : Option (List NumberedEdge)) × LinkStandsFor setup self.old stretch }
         ensures stands { (setup : ChannelSetup) (stretch : Option (List NumberedEdge)) → LinkStandsFor setup self.old stretch
             → LinkStandsFor setup self.new (open_with number stretch (Item.Edge edge)) }
         ensures grows { (setup : ChannelSetup) (stretch : Option (List NumberedEdge)) → LinkStandsFor setup self.old stretch
-            → resumed setup number stretch (Item.Edge edge ∷ []) ≡ resumed setup number stretch [] ++ result.items }
+            → resumed setup number stretch (Item.Edge edge ∷ []) ≡ resumed setup number stretch [] ++ reports.new.items }
     {
         match self {
-            Link::Sent(channel) => channel.push(number, edge),
-            Link::Ended => ArrayVec::new(),
+            Link::Sent(channel) => channel.push(number, edge, reports),
+            Link::Ended => {}
         }
     }
 
-    /// Takes a gap: what is open is dropped.
-    fn gap(&mut self, first: u64, count: u64) -> ArrayVec<Report, 8>
+    /// Takes a gap: what is open is dropped. Adds its report to none.
+    fn gap(&mut self, first: u64, count: u64, reports: &mut ArrayVec<Report, 8>)
+        requires { reports.old.items ≡ [] }
         ensures stands { (setup : ChannelSetup) (number : ℕ) (stretch : Option (List NumberedEdge)) → LinkStandsFor setup self.old stretch
             → LinkStandsFor setup self.new (open_with number stretch (Item.Gap first count)) }
         ensures grows { (setup : ChannelSetup) (number : ℕ) (stretch : Option (List NumberedEdge)) → LinkStandsFor setup self.old stretch
-            → resumed setup number stretch (Item.Gap first count ∷ []) ≡ resumed setup number stretch [] ++ result.items }
+            → resumed setup number stretch (Item.Gap first count ∷ []) ≡ resumed setup number stretch [] ++ reports.new.items }
     {
-        let mut reports = ArrayVec::new();
         match self {
             Link::Sent(channel) => {
                 channel.reset();
@@ -78,31 +84,26 @@ impl Link {
             }
             Link::Ended => {}
         }
-        reports
     }
 
-    /// Takes the end of a whole list.
-    fn end(&mut self) -> ArrayVec<Report, 8>
+    /// Takes the end of a whole list. It adds no report: a frame that is open at the end isn't whole.
+    fn end(&mut self)
         ensures stands { (setup : ChannelSetup) (number : ℕ) (stretch : Option (List NumberedEdge)) → LinkStandsFor setup self.old stretch
             → LinkStandsFor setup self.new (open_with number stretch Item.End) }
         ensures grows { (setup : ChannelSetup) (number : ℕ) (stretch : Option (List NumberedEdge)) → LinkStandsFor setup self.old stretch
-            → resumed setup number stretch (Item.End ∷ []) ≡ resumed setup number stretch [] ++ result.items }
+            → resumed setup number stretch (Item.End ∷ []) ≡ resumed setup number stretch [] }
     {
-        // A frame that is open at the end isn't whole: there is no report of it.
-        let reports = ArrayVec::new();
         *self = Link::Ended;
-        reports
     }
 
     /// Takes the end of a list that was cut off: what is open is dropped.
-    fn cut(&mut self) -> ArrayVec<Report, 8>
+    fn cut(&mut self)
         ensures stands { (setup : ChannelSetup) (number : ℕ) (stretch : Option (List NumberedEdge)) → LinkStandsFor setup self.old stretch
             → LinkStandsFor setup self.new (open_with number stretch Item.Cut) }
         ensures grows { (setup : ChannelSetup) (number : ℕ) (stretch : Option (List NumberedEdge)) → LinkStandsFor setup self.old stretch
-            → resumed setup number stretch (Item.Cut ∷ []) ≡ resumed setup number stretch [] ++ result.items }
+            → resumed setup number stretch (Item.Cut ∷ []) ≡ resumed setup number stretch [] }
     {
         *self = Link::Ended;
-        ArrayVec::new()
     }
 }
 
@@ -129,15 +130,28 @@ impl Receiver {
         ensures grows { (setup : ChannelSetup) (seen : List Item) → StandsFor setup self.old seen
             → so_far setup (seen ++ item ∷ []) ≡ so_far setup seen ++ result.items }
     {
+        let mut reports = ArrayVec::new();
+        self.push_into(item, &mut reports);
+        reports
+    }
+
+    /// The same, with the reports added to an empty list.
+    pub fn push_into(&mut self, item: Item, reports: &mut ArrayVec<Report, 8>)
+        requires empty { reports.old.items ≡ [] }
+        requires takeable { (setup : ChannelSetup) × (seen : List Item) × StandsFor setup self.old seen × IsTakeable (edges_counted seen) item }
+        ensures stands { (setup : ChannelSetup) (seen : List Item) → StandsFor setup self.old seen → StandsFor setup self.new (seen ++ item ∷ []) }
+        ensures grows { (setup : ChannelSetup) (seen : List Item) → StandsFor setup self.old seen
+            → so_far setup (seen ++ item ∷ []) ≡ so_far setup seen ++ reports.new.items }
+    {
         let number = self.number;
         match item {
             Item::Edge(edge) => {
                 self.number = number + 1;
-                self.link.edge(number, edge)
+                self.link.edge(number, edge, reports);
             }
             Item::Gap { first, count } => {
                 self.number = number + count;
-                self.link.gap(first, count)
+                self.link.gap(first, count, reports);
             }
             Item::End => self.link.end(),
             Item::Cut => self.link.cut(),

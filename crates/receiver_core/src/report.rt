@@ -18,6 +18,22 @@ pub enum What {
         /// The counter of this frame.
         now: u8,
     },
+    /// A short serial message.
+    Short {
+        /// The message ID, 0 to 15.
+        id: u8,
+        /// The value, 0 to 255.
+        value: u8,
+    },
+    /// An enhanced serial message.
+    Enhanced {
+        /// The message ID, 0 to 255, or 0 to 15 where the value is wide.
+        id: u8,
+        /// The value, 0 to 4,095, or 0 to 65,535 where it is wide.
+        value: u16,
+        /// Whether the value has 16 bits and the ID 4, and not 12 and 8.
+        wide: bool,
+    },
     /// A rule is violated.
     Bad(Rule),
     /// Edges were lost.

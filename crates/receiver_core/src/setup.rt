@@ -10,6 +10,17 @@ use sent_frame::SentSetup;
 /// The greatest line of an edge list.
 const MAX_LINE: u8 = 15;
 
+/// Which serial messages the status nibbles carry.
+#[derive(Clone, Copy, Debug, PartialEq, Eq)]
+pub enum Serial {
+    /// None.
+    Absent,
+    /// Short messages.
+    Short,
+    /// Enhanced messages.
+    Enhanced,
+}
+
 /// One link on its line, and what is read of it.
 #[derive(Clone, Copy, Debug, PartialEq, Eq)]
 pub enum ChannelSetup {
@@ -21,6 +32,8 @@ pub enum ChannelSetup {
         setup: SentSetup,
         /// How their data nibbles are laid out.
         layout: Layout,
+        /// Which serial messages their status nibbles carry.
+        serial: Serial,
     },
 }
 
@@ -46,6 +59,7 @@ impl ChannelSetup {
                 line,
                 setup,
                 layout,
+                ..
             } => {
                 if *line > MAX_LINE {
                     return Some(SetupFault::Lines);

@@ -44,6 +44,7 @@ impl Tally {
             What::Frame(_) => self.good += 1,
             What::Fast(_) => {}
             What::Counter { .. } | What::Bad(_) => self.bad += 1,
+            What::Short { .. } | What::Enhanced { .. } => self.messages += 1,
             What::Gap { count } => {
                 self.gaps += 1;
                 self.lost += count;

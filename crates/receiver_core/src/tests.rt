@@ -41,6 +41,7 @@ fn secure(rt: &impl Abort) -> ChannelSetup
         line: 0,
         setup,
         layout: Layout::Secure12,
+        serial: Serial::Absent,
     }
 }
 
@@ -214,6 +215,33 @@ fn a_gap_drops_the_open_frame_and_opens_the_line(rt: HostRuntime) -> Result<(), 
 }
 
 #[test]
+fn a_gap_at_any_place_of_a_frame_drops_it(rt: HostRuntime) -> Result<(), Fail> {
+    let whole = [1, 2, 3, 4, 5, 14];
+    for place in 0..22u64 {
+        let mut cut = items(rt.alloc(), 0, &WHOLE)?;
+        cut.truncate(place as usize);
+        cut.push(Item::Gap {
+            first: place,
+            count: 1,
+        })?;
+        cut.extend_from_slice(&items(rt.alloc(), 1_000_000, &WHOLE)?)?;
+        let found = reports(rt.alloc(), secure(&rt), &cut)?;
+        let before = [frame(&rt, 19, whole), value(19)];
+        let behind = [
+            gap(place, 1),
+            frame(&rt, place + 20, whole),
+            value(place + 20),
+        ];
+        // The frame ends at edge 19.
+        let told = if place > 19 { before.as_slice() } else { &[] };
+        assert_eq!(rt; found.len(), told.len() + 3, "{place}");
+        assert!(rt; found.starts_with(told), "{place}");
+        assert!(rt; found.ends_with(&behind), "{place}");
+    }
+    Ok(())
+}
+
+#[test]
 fn after_a_gap_the_next_edge_is_no_fall(rt: HostRuntime) -> Result<(), Fail> {
     let items = items(rt.alloc(), 0, &WHOLE)?;
     let (_, falls) = items.split_first().expect(&rt, "an opening");
@@ -242,6 +270,122 @@ fn an_end_tells_nothing_and_nothing_is_told_after_it(rt: HostRuntime) -> Result<
     Ok(())
 }
 
+/// The statuses of a short message of the ID 5 and the value A3.
+const SHORT_MESSAGE: [u8; 16] = [8, 4, 0, 4, 4, 0, 4, 0, 0, 0, 4, 4, 4, 4, 0, 0];
+
+/// The last pulse, in ticks, of a frame of six zeros with a right CRC, and with a wrong one.
+const RIGHT: u8 = 17;
+const WRONG: u8 = 18;
+
+/// Reads short messages: a tick of 3,000 ns, a jitter of 300 ns, six nibbles, on line 0.
+fn short(rt: &impl Abort) -> ChannelSetup
+    ensures { setup_fault_of result ≡ None }
+{
+    let setup = SentSetup::new(3_000, 300, 6, false, CrcForm::New).expect(rt, "in range");
+    ChannelSetup::Sent {
+        line: 0,
+        setup,
+        layout: Layout::Raw,
+        serial: Serial::Short,
+    }
+}
+
+/// Adds the edges of a frame of this status, six zeros and a last pulse of so many ticks, after this time.
+fn add_frame(items: &mut Vec<Item>, time: &mut u64, status: u8, last: u8) -> Result<(), AllocError> {
+    let status = status.saturating_add(12);
+    for ticks in [56, status, 12, 12, 12, 12, 12, 12, last] {
+        *time = time.saturating_add(3_000 * u64::from(ticks));
+        add_fall(items, *time)?;
+    }
+    Ok(())
+}
+
+/// Adds a fall at this time, and a rise 15,000 ns later.
+fn add_fall(items: &mut Vec<Item>, time: u64) -> Result<(), AllocError> {
+    items.push(Item::Edge(Edge {
+        line: 0,
+        time,
+        level: false,
+    }))?;
+    items.push(Item::Edge(Edge {
+        line: 0,
+        time: time.saturating_add(15_000),
+        level: true,
+    }))?;
+    Ok(())
+}
+
+/// The opening and the first fall, at 300,000 ns.
+fn begun(alloc: Global) -> Result<Vec<Item>, AllocError> {
+    let mut items = Vec::new(alloc);
+    items.push(Item::Edge(Edge {
+        line: 0,
+        time: 0,
+        level: true,
+    }))?;
+    add_fall(&mut items, 300_000)?;
+    Ok(items)
+}
+
+#[test]
+fn a_serial_message_is_told_after_its_last_frame(rt: HostRuntime) -> Result<(), Fail> {
+    let mut list = begun(rt.alloc())?;
+    let mut time = 300_000;
+    for status in SHORT_MESSAGE {
+        add_frame(&mut list, &mut time, status, RIGHT)?;
+    }
+    let found = reports(rt.alloc(), short(&rt), &list)?;
+    let message = Report {
+        place: 289,
+        what: What::Short { id: 5, value: 0xA3 },
+    };
+    assert_eq!(rt; found.len(), 17);
+    assert_eq!(rt; found.get(15), Some(&frame(&rt, 289, [0; 6])));
+    assert_eq!(rt; found.get(16), Some(&message));
+    Ok(())
+}
+
+#[test]
+fn a_message_is_gone_after_a_bad_frame_at_any_of_its_frames(rt: HostRuntime) -> Result<(), Fail> {
+    for cut in 1..16usize {
+        let mut list = begun(rt.alloc())?;
+        let mut time = 300_000;
+        for (i, status) in SHORT_MESSAGE.iter().enumerate() {
+            if i == cut {
+                add_frame(&mut list, &mut time, 0, WRONG)?;
+            }
+            add_frame(&mut list, &mut time, *status, RIGHT)?;
+        }
+        let found = reports(rt.alloc(), short(&rt), &list)?;
+        // Sixteen frames and the bad one.
+        assert_eq!(rt; found.len(), 17, "{cut}");
+        assert_eq!(rt; found.get(16), Some(&frame(&rt, 307, [0; 6])), "{cut}");
+    }
+    Ok(())
+}
+
+#[test]
+fn a_message_is_gone_after_a_gap_at_any_of_its_frames(rt: HostRuntime) -> Result<(), Fail> {
+    for cut in 1..16usize {
+        let mut list = begun(rt.alloc())?;
+        let mut time = 300_000;
+        for (i, status) in SHORT_MESSAGE.iter().enumerate() {
+            if i == cut {
+                let first = list.len() as u64;
+                list.push(Item::Gap { first, count: 1 })?;
+                // The fall that ends its calibration pulse is an opening, so this frame isn't read.
+                add_frame(&mut list, &mut time, 0, RIGHT)?;
+            }
+            add_frame(&mut list, &mut time, *status, RIGHT)?;
+        }
+        let found = reports(rt.alloc(), short(&rt), &list)?;
+        // Sixteen frames and the gap.
+        assert_eq!(rt; found.len(), 17, "{cut}");
+        assert_eq!(rt; found.get(16), Some(&frame(&rt, 308, [0; 6])), "{cut}");
+    }
+    Ok(())
+}
+
 #[test]
 fn a_setup_is_refused_at_its_line_and_then_at_its_layout(rt: HostRuntime) {
     let cases = [
@@ -260,6 +404,7 @@ fn a_setup_is_refused_at_its_line_and_then_at_its_layout(rt: HostRuntime) {
             line,
             setup,
             layout,
+            serial: Serial::Absent,
         };
         assert_eq!(rt; channel.fault(), fault, "{line} {nibbles} {layout:?}");
         assert_eq!(rt; channel.line(), line);
@@ -267,7 +412,7 @@ fn a_setup_is_refused_at_its_line_and_then_at_its_layout(rt: HostRuntime) {
 }
 
 #[test]
-fn a_tally_counts_frames_faults_and_lost_edges(rt: HostRuntime) {
+fn a_tally_counts_frames_faults_messages_and_lost_edges(rt: HostRuntime) {
     let nibbles = Nibbles::new(&[0; 6]).expect(&rt, "six nibbles");
     let frame = after(What::Frame(SentFrame { status: 0, nibbles }));
     assert_eq!(rt; frame, tally(2, 2, 4, 5));
@@ -275,5 +420,13 @@ fn a_tally_counts_frames_faults_and_lost_edges(rt: HostRuntime) {
     assert_eq!(rt; after(What::Bad(Rule::Copy)), tally(1, 3, 4, 5));
     let jump = after(What::Counter { before: 1, now: 3 });
     assert_eq!(rt; jump, tally(1, 3, 4, 5));
+    let message = after(What::Short { id: 5, value: 0 });
+    assert_eq!(rt; message.messages, 4);
+    let message = after(What::Enhanced {
+        id: 5,
+        value: 0,
+        wide: true,
+    });
+    assert_eq!(rt; message.messages, 4);
     assert_eq!(rt; after(What::Gap { count: 6 }), tally(1, 2, 5, 11));
 }

@@ -1,8 +1,6 @@
 -- Nothing is added.
-use Rattle.std.proofs.Common.{◌++◌, [], ap, sym, ◌∙◌}
-use Rattle.receiver_core.specs.OpenStretches.{resumed}
 use Rattle.receiver_core.proofs.Links.{cut-adds}
 use Rattle.receiver_core.proofs.receiver.Link.cut.Goals as goal
 
 pub returns-clause-grows : goal.returns-clause-grows
-returns-clause-grows c = λ setup number stretch stands. cut-adds setup number stretch ∙ ap (λ l. resumed setup number stretch [] ++ l) (sym c.new.ensures)
+returns-clause-grows c = λ setup number stretch stands. cut-adds setup number stretch

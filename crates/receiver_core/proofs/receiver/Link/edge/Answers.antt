@@ -7,5 +7,5 @@ use Rattle.receiver_core.proofs.receiver.Link.edge.Goals as goal
 
 pub returns-in-Sent-clause-grows : goal.returns-in-Sent-clause-grows
 returns-in-Sent-clause-grows c = λ setup stretch stands.
-    edge-adds setup c.args.number c.in-Sent.channel stretch c.args.edge c.push.result.items
+    edge-adds setup c.args.number c.in-Sent.channel stretch c.args.edge c.push.new.reports.items
     (subst (λ (l : Link). LinkStandsFor setup l stretch) c.in-Sent.is stands) c.push.ensures.grows

@@ -1,9 +1,9 @@
 -- Each kind of item adds what its link answers, and the edges that it counts.
-use Rattle.std.proofs.Common.{◌+◌, sym, ap, add-zero, refl}
+use Rattle.std.proofs.Common.{◌+◌, [], sym, ap, add-zero, refl}
 use Rattle.receiver_core.specs.OpenStretches.{open_stretch}
-use Rattle.receiver_core.proofs.Links.{receiver-more, receiver-grows}
+use Rattle.receiver_core.proofs.Links.{receiver-more, receiver-grows, no-more}
 use Rattle.line_base.specs.declared.edge.Item.TheVariants as item
-use Rattle.receiver_core.proofs.receiver.Receiver.push.Goals as goal
+use Rattle.receiver_core.proofs.receiver.Receiver.push_into.Goals as goal
 
 pub returns-in-Edge-clause-stands : goal.returns-in-Edge-clause-stands
 returns-in-Edge-clause-stands c = λ setup seen before.
@@ -12,7 +12,7 @@ returns-in-Edge-clause-stands c = λ setup seen before.
 
 pub returns-in-Edge-clause-grows : goal.returns-in-Edge-clause-grows
 returns-in-Edge-clause-grows c = λ setup seen before.
-    rw c.in-Edge.is (receiver-grows setup c.args.self.now seen (item.Edge c.in-Edge.edge) c.edge.result.items before (c.edge.ensures.grows setup (open_stretch seen) before.reads))
+    rw c.in-Edge.is (receiver-grows setup c.args.self.now seen (item.Edge c.in-Edge.edge) c.edge.new.reports.items before (c.edge.ensures.grows setup (open_stretch seen) before.reads))
 
 pub returns-in-Gap-clause-stands : goal.returns-in-Gap-clause-stands
 returns-in-Gap-clause-stands c = λ setup seen before.
@@ -21,7 +21,7 @@ returns-in-Gap-clause-stands c = λ setup seen before.
 
 pub returns-in-Gap-clause-grows : goal.returns-in-Gap-clause-grows
 returns-in-Gap-clause-grows c = λ setup seen before.
-    rw c.in-Gap.is (receiver-grows setup c.args.self.now seen (item.Gap c.in-Gap.first c.in-Gap.count) c.gap.result.items before (c.gap.ensures.grows setup c.args.self.now.number (open_stretch seen) before.reads))
+    rw c.in-Gap.is (receiver-grows setup c.args.self.now seen (item.Gap c.in-Gap.first c.in-Gap.count) c.gap.new.reports.items before (c.gap.ensures.grows setup c.args.self.now.number (open_stretch seen) before.reads))
 
 pub returns-in-End-clause-stands : goal.returns-in-End-clause-stands
 returns-in-End-clause-stands c = λ setup seen before.
@@ -30,7 +30,7 @@ returns-in-End-clause-stands c = λ setup seen before.
 
 pub returns-in-End-clause-grows : goal.returns-in-End-clause-grows
 returns-in-End-clause-grows c = λ setup seen before.
-    rw c.in-End.is (receiver-grows setup c.args.self.now seen item.End c.end.result.items before (c.end.ensures.grows setup c.args.self.now.number (open_stretch seen) before.reads))
+    rw (c.in-End.is, c.requires.empty) (receiver-grows setup c.args.self.now seen item.End [] before (no-more setup c.args.self.now.number (open_stretch seen) item.End (c.end.ensures.grows setup c.args.self.now.number (open_stretch seen) before.reads)))
 
 pub returns-in-Cut-clause-stands : goal.returns-in-Cut-clause-stands
 returns-in-Cut-clause-stands c = λ setup seen before.
@@ -39,4 +39,4 @@ returns-in-Cut-clause-stands c = λ setup seen before.
 
 pub returns-in-Cut-clause-grows : goal.returns-in-Cut-clause-grows
 returns-in-Cut-clause-grows c = λ setup seen before.
-    rw c.in-Cut.is (receiver-grows setup c.args.self.now seen item.Cut c.cut.result.items before (c.cut.ensures.grows setup c.args.self.now.number (open_stretch seen) before.reads))
+    rw (c.in-Cut.is, c.requires.empty) (receiver-grows setup c.args.self.now seen item.Cut [] before (no-more setup c.args.self.now.number (open_stretch seen) item.Cut (c.cut.ensures.grows setup c.args.self.now.number (open_stretch seen) before.reads)))

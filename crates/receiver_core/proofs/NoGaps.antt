@@ -1,0 +1,118 @@
+-- Reports of edges alone tell of no gap.
+use Rattle.std.proofs.Common.{◌≡◌, ℕ, ◌+◌, ◌%◌, ◌==◌, Bool, true, false, cond, List, [], ◌∷◌, ◌++◌, Option, None, Some, Result, Ok, Err, map, flat_map, count_by, sum_by, refl, ◌∙◌}
+use Rattle.std.proofs.lemmas.List.Sums.{sum_by-cons}
+use Rattle.line_base.specs.declared.edge.Edge.{Edge}
+use Rattle.line_base.specs.declared.edge.Item.TheVariants as item
+use Rattle.line_base.specs.declared.rule.Rule.{Rule}
+use Rattle.sent_frame.specs.declared.frame.SentStep.{SentStep}
+use Rattle.sent_frame.specs.declared.frame.SentStep.TheVariants.{Nothing, Good, Bad}
+use Rattle.sent_frame.specs.Pulses.{NumberedEdge}
+use Rattle.sent_frame.specs.Reading.{sent_reading}
+use Rattle.sent_fast.specs.declared.layout.Layout.{Layout}
+use Rattle.sent_fast.specs.declared.layout.Fast.{Fast}
+use Rattle.sent_fast.specs.declared.layout.Fast.TheVariants as fast
+use Rattle.sent_fast.specs.Layouts.{fast_of}
+use Rattle.sent_serial.specs.declared.step.SerialStep.{SerialStep}
+use Rattle.sent_serial.specs.declared.step.SerialStep.TheVariants as serial
+use Rattle.receiver_core.specs.declared.report.Report.{Report}
+use Rattle.receiver_core.specs.declared.report.What.TheVariants as what
+use Rattle.receiver_core.specs.declared.setup.Serial.{Serial}
+use Rattle.receiver_core.specs.declared.setup.ChannelSetup.{ChannelSetup}
+use Rattle.receiver_core.specs.declared.setup.ChannelSetup.TheVariants.{Sent}
+use Rattle.receiver_core.specs.Serials.{serial_steps}
+use Rattle.receiver_core.specs.SentReports.{counter_reports, value_reports, serial_report, serial_reports, step_reports, watch_past_step, statuses_past_step, sent_reports}
+use Rattle.receiver_core.specs.Channels.{stretch_reports, end_reports, reports_from, so_far, final}
+use Rattle.receiver_core.specs.Tallies.{is_gap, lost_in, TellNoGap}
+
+tell-append : (xs ys : List Report) → TellNoGap xs → TellNoGap ys → TellNoGap (xs ++ ys)
+tell-append [] ys none more = more
+tell-append (x ∷ xs) ys (here, never, none) more = (here, never, tell-append xs ys none more)
+
+-- and so does each part of them
+pub tell-behind : (xs ys : List Report) → TellNoGap (xs ++ ys) → TellNoGap ys
+tell-behind [] ys none = none
+tell-behind (x ∷ xs) ys (here, never, none) = tell-behind xs ys none
+
+one_counter : (place before now : ℕ) (t : Bool) → TellNoGap (cond t [] (record { place = place; what = what.Counter before now } ∷ []))
+one_counter place before now true = tt
+one_counter place before now false = (refl, refl, tt)
+
+counter-none : (place : ℕ) (before : Option ℕ) (now : ℕ) → TellNoGap (counter_reports place before now)
+counter-none place None now = tt
+counter-none place (Some before) now = one_counter place before now (now == (before + 1) % 256)
+
+value-none : (place : ℕ) (before : Option ℕ) (value : Result Fast Rule) → TellNoGap (value_reports place before value)
+value-none place before (Err rule) = (refl, refl, tt)
+value-none place before (Ok fast.Raw) = tt
+value-none place before (Ok (fast.One a)) = (refl, refl, tt)
+value-none place before (Ok (fast.Two a b)) = (refl, refl, tt)
+value-none place before (Ok (fast.Secure a counter)) = (refl, refl, counter-none place before counter)
+value-none place before (Ok (fast.Split a b)) = (refl, refl, tt)
+
+one-serial : (place : ℕ) (step : SerialStep) → TellNoGap (serial_report place step)
+one-serial place serial.Nothing = tt
+one-serial place (serial.Short id value) = (refl, refl, tt)
+one-serial place (serial.Enhanced id value wide) = (refl, refl, tt)
+one-serial place (serial.Bad rule) = (refl, refl, tt)
+
+serial-none : (place : ℕ) (steps : List SerialStep) → TellNoGap (flat_map (serial_report place) steps)
+serial-none place [] = tt
+serial-none place (step ∷ steps) = tell-append (serial_report place step) (flat_map (serial_report place) steps) (one-serial place step) (serial-none place steps)
+
+step-none : (layout : Layout) (form : Serial) (before : Option ℕ) (statuses : List ℕ) (step : SentStep) → TellNoGap (step_reports layout form before statuses step)
+step-none layout form before statuses Nothing = tt
+step-none layout form before statuses (Good place frame) =
+    (refl, refl, tell-append (value_reports place before (fast_of layout frame.nibbles)) (serial_reports form place statuses frame.status)
+    (value-none place before (fast_of layout frame.nibbles)) (serial-none place (serial_steps form statuses frame.status)))
+step-none layout form before statuses (Bad place rule) = (refl, refl, tt)
+
+sent-none : (layout : Layout) (form : Serial) (before : Option ℕ) (statuses : List ℕ) (steps : List SentStep) → TellNoGap (sent_reports layout form before statuses steps)
+unfolding sent_reports
+sent-none layout form before statuses [] = tt
+sent-none layout form before statuses (step ∷ steps) =
+    tell-append (step_reports layout form before statuses step) (sent_reports layout form (watch_past_step layout before step) (statuses_past_step statuses step) steps)
+    (step-none layout form before statuses step) (sent-none layout form (watch_past_step layout before step) (statuses_past_step statuses step) steps)
+
+stretch-tells : (setup : ChannelSetup) (stretch : List NumberedEdge) → TellNoGap (stretch_reports setup stretch)
+unfolding stretch_reports
+stretch-tells (Sent line s layout form) stretch = sent-none layout form None [] (sent_reading s stretch)
+
+end-tells : (setup : ChannelSetup) (stretch : List NumberedEdge) → TellNoGap (end_reports setup stretch)
+unfolding end_reports
+end-tells (Sent line s layout form) stretch = tt
+
+edges-tell : (setup : ChannelSetup) (number : ℕ) (stretch : List NumberedEdge) (edges : List Edge) → TellNoGap (reports_from setup number stretch (map item.Edge edges))
+unfolding reports_from
+edges-tell setup number stretch [] = stretch-tells setup stretch
+edges-tell setup number stretch (edge ∷ edges) = edges-tell setup (number + 1) (stretch ++ record { number = number; edge = edge } ∷ []) edges
+
+ends-tell : (setup : ChannelSetup) (number : ℕ) (stretch : List NumberedEdge) (edges : List Edge) → TellNoGap (reports_from setup number stretch (map item.Edge edges ++ item.End ∷ []))
+unfolding reports_from
+ends-tell setup number stretch [] = tell-append (stretch_reports setup stretch) (end_reports setup stretch) (stretch-tells setup stretch) (end-tells setup stretch)
+ends-tell setup number stretch (edge ∷ edges) = ends-tell setup (number + 1) (stretch ++ record { number = number; edge = edge } ∷ []) edges
+
+-- the reports of edges tell of no gap
+pub so_far-tells : (setup : ChannelSetup) (edges : List Edge) → TellNoGap (so_far setup (map item.Edge edges))
+unfolding so_far
+so_far-tells setup edges = edges-tell setup 0 [] edges
+
+-- and those with the end neither
+pub final-tells : (setup : ChannelSetup) (edges : List Edge) → TellNoGap (final setup (map item.Edge edges))
+unfolding final so_far
+final-tells setup edges = ends-tell setup 0 [] edges
+
+one-more_lost : (x : Report) (lost : ℕ) → lost_in x.what ≡ 0 → lost ≡ 0 → lost_in x.what + lost ≡ 0
+one-more_lost x lost none before = rw (none, before) refl
+
+-- so no edge is counted as lost
+pub none-lost : (reports : List Report) → TellNoGap reports → sum_by (λ report. lost_in report.what) reports ≡ 0
+none-lost [] tells = refl
+none-lost (x ∷ xs) (here, never, tells) = sum_by-cons (λ (report : Report). lost_in report.what) x xs ∙ one-more_lost x (sum_by (λ report. lost_in report.what) xs) here (none-lost xs tells)
+
+one-more_gap : (x : Report) (gaps : ℕ) → is_gap x.what ≡ false → gaps ≡ 0 → cond (is_gap x.what) 1 0 + gaps ≡ 0
+one-more_gap x gaps none before = rw (none, before) refl
+
+-- and no gap
+pub none-gaps : (reports : List Report) → TellNoGap reports → count_by (λ report. is_gap report.what) reports ≡ 0
+none-gaps [] tells = refl
+none-gaps (x ∷ xs) (here, never, tells) = sum_by-cons (λ (report : Report). cond (is_gap report.what) 1 0) x xs ∙ one-more_gap x (count_by (λ report. is_gap report.what) xs) never (none-gaps xs tells)
