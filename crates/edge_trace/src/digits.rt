@@ -39,9 +39,10 @@ fn zeros_after(before: u64, places: usize) -> u64
     number
 }
 
-/// The number of a field of one or more digits.
+/// The number that a field of one or more decimal digits writes, or 10^15 + 1 where it is greater; `None` for
+/// any other field.
 #[inline]
-pub(crate) fn number_of(field: &[u8]) -> Option<u64>
+pub fn number_of(field: &[u8]) -> Option<u64>
     ensures value { result ≡ option_map capped (number_in field.now) }
     ensures small { IfSome result (λ number. number ≤ 1000000000000001) }
 {

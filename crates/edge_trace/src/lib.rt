@@ -1,5 +1,5 @@
 //! Edge lists: rows of text that say when a line of a logic analyser changed its level, read from single
-//! bytes.
+//! bytes. Beside them stands how any text is cut, and which number its digits write.
 //!
 //! The text forms, their limits and the order of the faults are this project's own. Times are in ns, at
 //! most 10^15, and lines are numbered 0 to 15.
@@ -21,6 +21,8 @@ mod tests;
 mod texts;
 mod wide;
 
+pub use digits::number_of;
 pub use edge_text::edge_line;
 pub use reader::{EdgeReader, INPUT_LIMIT};
 pub use row::{Row, RowEdges};
+pub use texts::cut;

@@ -7,7 +7,7 @@ use memchr::memchr;
 
 /// The part of a text up to the first such byte, and the part behind it, if there is one.
 #[inline]
-pub(crate) fn cut(text: &[u8], mark: u8) -> (&[u8], Option<&[u8]>)
+pub fn cut(text: &[u8], mark: u8) -> (&[u8], Option<&[u8]>)
     ensures { (result.0.now, option_copied result.1) ≡ cut_at mark text.now }
 {
     for (i, byte) in text.iter().enumerate() {

@@ -1,0 +1,4 @@
+pub mod Settings
+pub mod Choices
+pub mod Specs
+pub mod Commands
