@@ -1,5 +1,5 @@
 -- What one answer more says of an edge list.
-use Rattle.std.proofs.Common.{◌≡◌, ℕ, List, [], ◌∷◌, ◌++◌, Option, None, Some, Result, Ok, Err, map, flat_map, filter_map, refl, ap, sym, ◌∙◌}
+use Rattle.std.proofs.Common.{◌≡◌, ℕ, List, [], ◌∷◌, ◌++◌, Option, None, Some, Result, Ok, Err, OnOk, OnErr, map, flat_map, filter_map, refl, ap, sym, ◌∙◌}
 use Rattle.std.specs.Result.{result_ok}
 use Rattle.std.proofs.lemmas.Grind.{flat_map-append}
 use Rattle.std.proofs.lemmas.List.Elements.{filter_map-append}
@@ -103,3 +103,13 @@ some-whole_fault bytes more fault e grows found =
 pub sound-none : (bytes : List ℕ) → fault_among (answers_of bytes) ≡ None → fault_of bytes ≡ None
 unfolding fault_of answers_of
 sound-none bytes e = answers_sound (told_of bytes) e
+
+-- what a good answer has leads to more that it has
+pub on-ok : {T E P Q : Type 0} (r : Result T E) → OnOk r P → (P → Q) → OnOk r Q
+on-ok (Ok x) p f = f p
+on-ok (Err e) p f = tt
+
+-- what a fault has leads to more that it has
+pub on-err : {T E P Q : Type 0} (r : Result T E) → OnErr r P → (P → Q) → OnErr r Q
+on-err (Ok x) p f = tt
+on-err (Err e) p f = f p

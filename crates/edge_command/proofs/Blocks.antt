@@ -8,6 +8,7 @@ use Rattle.line_base.specs.declared.reason.Reason.TheVariants as reason
 use Rattle.edge_trace.specs.declared.reader.EdgeReader.{EdgeReader}
 use Rattle.edge_trace.specs.Limits.{edges_of, answers_of}
 use Rattle.edge_trace.specs.Readers.{StandsFor}
+use Rattle.receiver_core.specs.declared.setup.ChannelSetup.{ChannelSetup}
 use Rattle.edge_command.proofs.TakeBytes.{none-took}
 use Rattle.edge_command.proofs.EdgeLists.{fault-stays, edges-stay, edges-front}
 use Rattle.edge_command.specs.declared.run.Run.{Run}
@@ -18,44 +19,44 @@ use Rattle.edge_command.proofs.Growths.{grows-twice, grows-cut, cut-longer, grow
 use Rattle.edge_command.proofs.Fronts.{text-front}
 
 -- the text of bytes is a front of that of more
-pub bytes-front : (line : ℕ) (bytes more : List ℕ) → IsFrontOf (text_so_far line (edges_of bytes)) (text_so_far line (edges_of (bytes ++ more)))
-bytes-front line bytes more =
+pub bytes-front : (setup : ChannelSetup) (bytes more : List ℕ) → IsFrontOf (text_so_far setup (edges_of bytes)) (text_so_far setup (edges_of (bytes ++ more)))
+bytes-front setup bytes more =
     let edges = edges-front bytes more in
-    subst (λ (es : List Edge). IsFrontOf (text_so_far line (edges_of bytes)) (text_so_far line es)) (sym edges.is) (text-front line (edges_of bytes) edges.rest)
+    subst (λ (es : List Edge). IsFrontOf (text_so_far setup (edges_of bytes)) (text_so_far setup es)) (sym edges.is) (text-front setup (edges_of bytes) edges.rest)
 
 -- what stopped a run stays the reason when more bytes come
-pub stopped-longer : (line : ℕ) (why : Reason) (a b : Option (List ℕ)) (earlier bytes more : List ℕ) → Stopped line why a b earlier bytes → Stopped line why a b earlier (bytes ++ more)
-stopped-longer line (reason.Input number fault) a b earlier bytes more (found, grows) =
-    (fault-stays bytes more (number, fault) found, subst (λ (es : List Edge). GrowsAlong a b (text_so_far line (edges_of earlier)) (text_so_far line es)) (sym (edges-stay bytes more (number, fault) found)) grows)
-stopped-longer line (reason.WriteFault None) a b earlier bytes more cut = cut-longer a b (text_so_far line (edges_of earlier)) (text_so_far line (edges_of bytes)) (text_so_far line (edges_of (bytes ++ more))) cut (bytes-front line bytes more)
-stopped-longer line (reason.WriteFault (Some lane)) a b earlier bytes more stopped = stopped
-stopped-longer line reason.Clean a b earlier bytes more stopped = stopped
-stopped-longer line reason.Marked a b earlier bytes more stopped = stopped
-stopped-longer line (reason.Words place fault) a b earlier bytes more stopped = stopped
-stopped-longer line reason.ReadFault a b earlier bytes more stopped = stopped
-stopped-longer line reason.OutOfMemory a b earlier bytes more stopped = stopped
+pub stopped-longer : (setup : ChannelSetup) (why : Reason) (a b : Option (List ℕ)) (earlier bytes more : List ℕ) → Stopped setup why a b earlier bytes → Stopped setup why a b earlier (bytes ++ more)
+stopped-longer setup (reason.Input number fault) a b earlier bytes more (found, grows) =
+    (fault-stays bytes more (number, fault) found, subst (λ (es : List Edge). GrowsAlong a b (text_so_far setup (edges_of earlier)) (text_so_far setup es)) (sym (edges-stay bytes more (number, fault) found)) grows)
+stopped-longer setup (reason.WriteFault None) a b earlier bytes more cut = cut-longer a b (text_so_far setup (edges_of earlier)) (text_so_far setup (edges_of bytes)) (text_so_far setup (edges_of (bytes ++ more))) cut (bytes-front setup bytes more)
+stopped-longer setup (reason.WriteFault (Some lane)) a b earlier bytes more stopped = stopped
+stopped-longer setup reason.Clean a b earlier bytes more stopped = stopped
+stopped-longer setup reason.Marked a b earlier bytes more stopped = stopped
+stopped-longer setup (reason.Words place fault) a b earlier bytes more stopped = stopped
+stopped-longer setup reason.ReadFault a b earlier bytes more stopped = stopped
+stopped-longer setup reason.OutOfMemory a b earlier bytes more stopped = stopped
 
 -- what stopped a run counts from earlier bytes too
-pub stopped-earlier : (line : ℕ) (why : Reason) (a b c : Option (List ℕ)) (first earlier bytes : List ℕ) → GrowsAlong a b (text_so_far line (edges_of first)) (text_so_far line (edges_of earlier))
-    → Stopped line why b c earlier bytes → Stopped line why a c first bytes
-stopped-earlier line (reason.Input number fault) a b c first earlier bytes before (found, grows) =
-    (found, grows-twice a b c (text_so_far line (edges_of first)) (text_so_far line (edges_of earlier)) (text_so_far line (edges_of bytes)) before grows)
-stopped-earlier line (reason.WriteFault None) a b c first earlier bytes before cut = grows-cut a b c (text_so_far line (edges_of first)) (text_so_far line (edges_of earlier)) (text_so_far line (edges_of bytes)) before cut
-stopped-earlier line (reason.WriteFault (Some lane)) a b c first earlier bytes before stopped = stopped
-stopped-earlier line reason.Clean a b c first earlier bytes before stopped = stopped
-stopped-earlier line reason.Marked a b c first earlier bytes before stopped = stopped
-stopped-earlier line (reason.Words place fault) a b c first earlier bytes before stopped = stopped
-stopped-earlier line reason.ReadFault a b c first earlier bytes before stopped = stopped
-stopped-earlier line reason.OutOfMemory a b c first earlier bytes before stopped = stopped
+pub stopped-earlier : (setup : ChannelSetup) (why : Reason) (a b c : Option (List ℕ)) (first earlier bytes : List ℕ) → GrowsAlong a b (text_so_far setup (edges_of first)) (text_so_far setup (edges_of earlier))
+    → Stopped setup why b c earlier bytes → Stopped setup why a c first bytes
+stopped-earlier setup (reason.Input number fault) a b c first earlier bytes before (found, grows) =
+    (found, grows-twice a b c (text_so_far setup (edges_of first)) (text_so_far setup (edges_of earlier)) (text_so_far setup (edges_of bytes)) before grows)
+stopped-earlier setup (reason.WriteFault None) a b c first earlier bytes before cut = grows-cut a b c (text_so_far setup (edges_of first)) (text_so_far setup (edges_of earlier)) (text_so_far setup (edges_of bytes)) before cut
+stopped-earlier setup (reason.WriteFault (Some lane)) a b c first earlier bytes before stopped = stopped
+stopped-earlier setup reason.Clean a b c first earlier bytes before stopped = stopped
+stopped-earlier setup reason.Marked a b c first earlier bytes before stopped = stopped
+stopped-earlier setup (reason.Words place fault) a b c first earlier bytes before stopped = stopped
+stopped-earlier setup reason.ReadFault a b c first earlier bytes before stopped = stopped
+stopped-earlier setup reason.OutOfMemory a b c first earlier bytes before stopped = stopped
 
 -- nothing is taken yet
 pub block-begun : (run : Run) (got : Option (List ℕ)) (faults : ℕ) → BlockSoFar run run got got faults faults []
 block-begun run got faults = record {
-  line = refl;
+  setup = refl;
   number = omega arith;
   took = λ bytes before. record {
     reads = subst (λ (bs : List ℕ). Reads run bs) (sym (append-nil bytes)) before;
-    grows = subst (λ (bs : List ℕ). GrowsAlong got got (text_so_far run.channel.line (edges_of bytes)) (text_so_far run.channel.line (edges_of bs))) (sym (append-nil bytes)) (grows-nothing got (text_so_far run.channel.line (edges_of bytes)));
+    grows = subst (λ (bs : List ℕ). GrowsAlong got got (text_so_far run.channel.setup (edges_of bytes)) (text_so_far run.channel.setup (edges_of bs))) (sym (append-nil bytes)) (grows-nothing got (text_so_far run.channel.setup (edges_of bytes)));
   };
   later = omega arith;
 }
@@ -63,34 +64,34 @@ block-begun run got faults = record {
 -- bytes that are taken behind others
 pub block-behind : (old mid new : Run) (a b c : Option (List ℕ)) (f h k : ℕ) (taken more : List ℕ) → BlockSoFar old mid a b f h taken → BlockSoFar mid new b c h k more → BlockSoFar old new a c f k (taken ++ more)
 block-behind old mid new a b c f h k taken more first second = record {
-  line = second.line ∙ first.line;
+  setup = second.setup ∙ first.setup;
   number = omega (arith, length-append taken more, first.number, second.number);
   took = λ bytes before.
       let one = first.took bytes before in
       let two = second.took (bytes ++ taken) one.reads in
       subst (λ (bs : List ℕ). TookBytes old new a c bytes bs) (append_assoc bytes taken more) (record {
         reads = two.reads;
-        grows = grows-twice a b c (text_so_far old.channel.line (edges_of bytes)) (text_so_far old.channel.line (edges_of (bytes ++ taken))) (text_so_far old.channel.line (edges_of ((bytes ++ taken) ++ more))) one.grows
-            (subst (λ (line : ℕ). GrowsAlong b c (text_so_far line (edges_of (bytes ++ taken))) (text_so_far line (edges_of ((bytes ++ taken) ++ more)))) first.line two.grows);
+        grows = grows-twice a b c (text_so_far old.channel.setup (edges_of bytes)) (text_so_far old.channel.setup (edges_of (bytes ++ taken))) (text_so_far old.channel.setup (edges_of ((bytes ++ taken) ++ more))) one.grows
+            (subst (λ (setup : ChannelSetup). GrowsAlong b c (text_so_far setup (edges_of (bytes ++ taken))) (text_so_far setup (edges_of ((bytes ++ taken) ++ more)))) first.setup two.grows);
       });
   later = omega (arith, first.later, second.later);
 }
 
 -- what stopped a run behind a front of a block stopped it in the block
 pub block-stopped : (old mid : Run) (why : Reason) (a b c : Option (List ℕ)) (f h : ℕ) (taken more after bytes : List ℕ) → BlockSoFar old mid a b f h taken → Reads old bytes
-    → ((bs : List ℕ) → Reads mid bs → Stopped mid.channel.line why b c bs (bs ++ more)) → Stopped old.channel.line why a c bytes (bytes ++ ((taken ++ more) ++ after))
+    → ((bs : List ℕ) → Reads mid bs → Stopped mid.channel.setup why b c bs (bs ++ more)) → Stopped old.channel.setup why a c bytes (bytes ++ ((taken ++ more) ++ after))
 block-stopped old mid why a b c f h taken more after bytes first before stopped =
     let one = first.took bytes before in
-    let here : Stopped old.channel.line why b c (bytes ++ taken) ((bytes ++ taken) ++ more) = subst (λ (line : ℕ). Stopped line why b c (bytes ++ taken) ((bytes ++ taken) ++ more)) first.line (stopped (bytes ++ taken) one.reads) in
-    let from_first : Stopped old.channel.line why a c bytes ((bytes ++ taken) ++ more) = stopped-earlier old.channel.line why a b c bytes (bytes ++ taken) ((bytes ++ taken) ++ more) one.grows here in
-    subst (λ (bs : List ℕ). Stopped old.channel.line why a c bytes bs) (append_assoc (bytes ++ taken) more after ∙ append_assoc bytes taken (more ++ after) ∙ ap (λ bs. bytes ++ bs) (sym (append_assoc taken more after)))
-    (stopped-longer old.channel.line why a c bytes ((bytes ++ taken) ++ more) after from_first)
+    let here : Stopped old.channel.setup why b c (bytes ++ taken) ((bytes ++ taken) ++ more) = subst (λ (setup : ChannelSetup). Stopped setup why b c (bytes ++ taken) ((bytes ++ taken) ++ more)) first.setup (stopped (bytes ++ taken) one.reads) in
+    let from_first : Stopped old.channel.setup why a c bytes ((bytes ++ taken) ++ more) = stopped-earlier old.channel.setup why a b c bytes (bytes ++ taken) ((bytes ++ taken) ++ more) one.grows here in
+    subst (λ (bs : List ℕ). Stopped old.channel.setup why a c bytes bs) (append_assoc (bytes ++ taken) more after ∙ append_assoc bytes taken (more ++ after) ∙ ap (λ bs. bytes ++ bs) (sym (append_assoc taken more after)))
+    (stopped-longer old.channel.setup why a c bytes ((bytes ++ taken) ++ more) after from_first)
 
 -- bytes that are taken and give no answer
 pub run-taken : (run : Run) (lines : EdgeReader) (got : Option (List ℕ)) (faults : ℕ) (more : List ℕ) → ((seen : List ℕ) → StandsFor run.lines seen → StandsFor lines (seen ++ more)) → ((seen : List ℕ) → StandsFor run.lines seen → answers_of (seen ++ more) ≡ answers_of seen)
     → BlockSoFar run (record { lines = lines; channel = run.channel }) got got faults faults more
 run-taken run lines got faults more stands quiet = record {
-  line = refl;
+  setup = refl;
   number = omega arith;
   took = λ bytes before. none-took run lines got bytes (bytes ++ more) before (stands bytes before.lines) (quiet bytes before.lines ∙ sym (append-nil (answers_of bytes)));
   later = omega arith;
@@ -135,7 +136,7 @@ none-left old new a b f h block (byte ∷ rest) before none = absurd (omega arit
 
 -- what stopped a run at bytes in a block stopped it in the block
 pub stopped-in : (old mid : Run) (why : Reason) (a b c : Option (List ℕ)) (f h : ℕ) (block more rest bytes : List ℕ) → BlockBefore old mid a b f h block (more ++ rest) → Reads old bytes
-    → ((bs : List ℕ) → Reads mid bs → Stopped mid.channel.line why b c bs (bs ++ more)) → Stopped old.channel.line why a c bytes (bytes ++ block)
+    → ((bs : List ℕ) → Reads mid bs → Stopped mid.channel.setup why b c bs (bs ++ more)) → Stopped old.channel.setup why a c bytes (bytes ++ block)
 stopped-in old mid why a b c f h block more rest bytes before reads stopped =
-    subst (λ (bs : List ℕ). Stopped old.channel.line why a c bytes (bytes ++ bs)) (append_assoc before.taken more rest ∙ before.parts)
+    subst (λ (bs : List ℕ). Stopped old.channel.setup why a c bytes (bytes ++ bs)) (append_assoc before.taken more rest ∙ before.parts)
     (block-stopped old mid why a b c f h before.taken more rest bytes before.so_far reads stopped)

@@ -1,60 +1,68 @@
 -- What was written of some edges stays when more come.
-use Rattle.std.proofs.Common.{◌≡◌, ℕ, ◌+◌, ◌==◌, Bool, true, false, cond, None, is_some, List, [], ◌∷◌, ◌++◌, flat_map, refl, ap, sym, subst, ◌∙◌, append_assoc}
+use Rattle.std.proofs.Common.{◌≡◌, ℕ, ◌==◌, Bool, true, false, cond, None, is_some, List, ◌++◌, map, flat_map, ap, sym, subst, ◌∙◌, append_assoc}
 use Rattle.std.proofs.lemmas.List.Elements.{filter-append}
 use Rattle.std.proofs.lemmas.Grind.{flat_map-append}
+use Rattle.std.proofs.lemmas.List.{map-append}
 use Rattle.line_base.specs.Streams.{IsFrontOf}
+use Rattle.line_base.proofs.Fronts.{IsFrontOf-trans}
 use Rattle.line_base.specs.declared.edge.Edge.{Edge}
+use Rattle.line_base.specs.declared.edge.Item.TheVariants as item
 use Rattle.edge_trace.specs.Limits.{whole_edges_of, whole_fault_of}
-use Rattle.sent_frame.specs.Reading.{sent_reading}
-use Rattle.sent_frame.proofs.Prefixes.{reading-front}
-use Rattle.edge_command.specs.Texts.{line_of, total_line}
-use Rattle.edge_command.specs.Channels.{on_line, numbered_from, plain_setup, reports_on, text_so_far, whole_text, text_of, tally_of}
+use Rattle.receiver_core.specs.declared.report.Report.{Report}
+use Rattle.receiver_core.specs.declared.setup.ChannelSetup.{ChannelSetup}
+use Rattle.receiver_core.specs.Setups.{line_of}
+use Rattle.receiver_core.specs.Channels.{so_far}
+use Rattle.receiver_core.specs.Tallies.{tally_of}
+use Rattle.receiver_core.proofs.ReportFronts.{so_far-front, final-front}
+use Rattle.edge_command.specs.Texts.{report_line, total_line}
+use Rattle.edge_command.specs.Channels.{on_line, items_on, reports_on, final_on, lines_of, text_so_far, whole_text, text_of}
 
-numbered-append : (number : ℕ) (edges more : List Edge) → IsFrontOf (numbered_from number edges) (numbered_from number (edges ++ more))
-unfolding numbered_from
-numbered-append number [] more = record { rest = numbered_from number more; is = refl }
-numbered-append number (edge ∷ edges) more =
-    let later = numbered-append (number + 1) edges more in
-    record { rest = later.rest; is = ap (λ es. record { number = number; edge = edge } ∷ es) later.is }
-
-on_line-append : (line : ℕ) (edges more : List Edge) → on_line line (edges ++ more) ≡ on_line line edges ++ on_line line more
-unfolding on_line
-on_line-append line edges more = filter-append (λ edge. edge.line == line) edges more
+items-append : (setup : ChannelSetup) (edges more : List Edge) → items_on setup (edges ++ more) ≡ items_on setup edges ++ items_on setup more
+unfolding items_on on_line
+items-append setup edges more =
+    ap (map item.Edge) (filter-append (λ edge. edge.line == line_of setup) edges more) ∙ map-append item.Edge (on_line (line_of setup) edges) (on_line (line_of setup) more)
 
 -- the reports of some edges are a front of those of more
-pub reports_on-front : (line : ℕ) (edges more : List Edge) → IsFrontOf (reports_on line edges) (reports_on line (edges ++ more))
+pub reports_on-front : (setup : ChannelSetup) (edges more : List Edge) → IsFrontOf (reports_on setup edges) (reports_on setup (edges ++ more))
 unfolding reports_on
-reports_on-front line edges more =
-    let numbered = numbered-append 0 (on_line line edges) (on_line line more) in
-    let reports = reading-front plain_setup (numbered_from 0 (on_line line edges)) numbered.rest in
-    record { rest = reports.rest; is = ap (λ es. sent_reading plain_setup (numbered_from 0 es)) (on_line-append line edges more) ∙ ap (sent_reading plain_setup) numbered.is ∙ reports.is }
+reports_on-front setup edges more =
+    let reports = so_far-front setup (items_on setup edges) (items_on setup more) in
+    record { rest = reports.rest; is = ap (so_far setup) (items-append setup edges more) ∙ reports.is }
+
+lines-front : (reports others : List Report) → IsFrontOf reports others → IsFrontOf (lines_of reports) (lines_of others)
+unfolding lines_of
+lines-front reports others front = record { rest = lines_of front.rest; is = ap (flat_map (report_line 0)) front.is ∙ flat_map-append (report_line 0) reports front.rest }
 
 -- the text of some edges is a front of that of more
-pub text-front : (line : ℕ) (edges more : List Edge) → IsFrontOf (text_so_far line edges) (text_so_far line (edges ++ more))
+pub text-front : (setup : ChannelSetup) (edges more : List Edge) → IsFrontOf (text_so_far setup edges) (text_so_far setup (edges ++ more))
 unfolding text_so_far
-text-front line edges more =
-    let reports = reports_on-front line edges more in
-    record { rest = flat_map (line_of 0) reports.rest; is = ap (flat_map (line_of 0)) reports.is ∙ flat_map-append (line_of 0) (reports_on line edges) reports.rest }
+text-front setup edges more = lines-front (reports_on setup edges) (reports_on setup (edges ++ more)) (reports_on-front setup edges more)
+
+final_lines-front : (setup : ChannelSetup) (edges : List Edge) → IsFrontOf (text_so_far setup edges) (lines_of (final_on setup edges))
+unfolding text_so_far reports_on final_on
+final_lines-front setup edges = lines-front (reports_on setup edges) (final_on setup edges) (final-front setup (items_on setup edges))
 
 -- the text so far is a front of the whole text
-pub whole-front : (line : ℕ) (edges more : List Edge) → IsFrontOf (text_so_far line edges) (whole_text line (edges ++ more))
+pub whole-front : (setup : ChannelSetup) (edges more : List Edge) → IsFrontOf (text_so_far setup edges) (whole_text setup (edges ++ more))
 unfolding whole_text
-whole-front line edges more =
-    let text = text-front line edges more in
-    record { rest = text.rest ++ total_line 0 (tally_of (reports_on line (edges ++ more))); is = ap (λ l. l ++ total_line 0 (tally_of (reports_on line (edges ++ more)))) text.is ∙ append_assoc (text_so_far line edges) text.rest (total_line 0 (tally_of (reports_on line (edges ++ more)))) }
+whole-front setup edges more =
+    IsFrontOf-trans (text-front setup edges more)
+    (let text = final_lines-front setup (edges ++ more) in
+    let total = total_line 0 (tally_of (final_on setup (edges ++ more))) in
+    record { rest = text.rest ++ total; is = ap (λ l. l ++ total) text.is ∙ append_assoc (text_so_far setup (edges ++ more)) text.rest total })
 
 -- the same of the text of an input, whether its edge list has a fault or not
-either-front : (line : ℕ) (edges more : List Edge) (faulty : Bool) → IsFrontOf (text_so_far line edges) (cond faulty (text_so_far line (edges ++ more)) (whole_text line (edges ++ more)))
-either-front line edges more true = text-front line edges more
-either-front line edges more false = whole-front line edges more
+either-front : (setup : ChannelSetup) (edges more : List Edge) (faulty : Bool) → IsFrontOf (text_so_far setup edges) (cond faulty (text_so_far setup (edges ++ more)) (whole_text setup (edges ++ more)))
+either-front setup edges more true = text-front setup edges more
+either-front setup edges more false = whole-front setup edges more
 
-pub input-front : (line : ℕ) (bytes : List ℕ) (edges more : List Edge) → whole_edges_of bytes ≡ edges ++ more → IsFrontOf (text_so_far line edges) (text_of line bytes)
+pub input-front : (setup : ChannelSetup) (bytes : List ℕ) (edges more : List Edge) → whole_edges_of bytes ≡ edges ++ more → IsFrontOf (text_so_far setup edges) (text_of setup bytes)
 unfolding text_of
-input-front line bytes edges more e =
-    subst (λ (es : List Edge). IsFrontOf (text_so_far line edges) (cond (is_some (whole_fault_of bytes)) (text_so_far line es) (whole_text line es))) (sym e)
-    (either-front line edges more (is_some (whole_fault_of bytes)))
+input-front setup bytes edges more e =
+    subst (λ (es : List Edge). IsFrontOf (text_so_far setup edges) (cond (is_some (whole_fault_of bytes)) (text_so_far setup es) (whole_text setup es))) (sym e)
+    (either-front setup edges more (is_some (whole_fault_of bytes)))
 
 -- without a fault it is the whole text
-pub input-sound : (line : ℕ) (bytes : List ℕ) → whole_fault_of bytes ≡ None → whole_text line (whole_edges_of bytes) ≡ text_of line bytes
+pub input-sound : (setup : ChannelSetup) (bytes : List ℕ) → whole_fault_of bytes ≡ None → whole_text setup (whole_edges_of bytes) ≡ text_of setup bytes
 unfolding text_of
-input-sound line bytes sound = ap (λ fault. cond (is_some fault) (text_so_far line (whole_edges_of bytes)) (whole_text line (whole_edges_of bytes))) (sym sound)
+input-sound setup bytes sound = ap (λ fault. cond (is_some fault) (text_so_far setup (whole_edges_of bytes)) (whole_text setup (whole_edges_of bytes))) (sym sound)

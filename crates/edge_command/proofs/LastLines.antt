@@ -5,6 +5,7 @@ use Rattle.line_base.specs.declared.edge.Edge.{Edge}
 use Rattle.line_base.specs.declared.faults.LineFault.{LineFault}
 use Rattle.edge_trace.specs.Limits.{edges_of, whole_edges_of, fault_of, whole_fault_of, answers_of, whole_answers_of, line_number_of}
 use Rattle.edge_trace.proofs.Times.{whole_edges-in_range}
+use Rattle.receiver_core.specs.declared.setup.ChannelSetup.{ChannelSetup}
 use Rattle.edge_command.proofs.EdgeLists.{whole-fault}
 use Rattle.edge_command.specs.Channels.{text_so_far}
 use Rattle.edge_command.specs.Writes.{GrowsAlong, GrowsTowards}
@@ -21,26 +22,26 @@ pub no_row-edges : (bytes : List ℕ) → whole_answers_of bytes ≡ answers_of 
 no_row-edges bytes grows = whole_edges-more bytes [] grows ∙ append-nil (edges_of bytes)
 
 -- the last line adds nothing
-pub no_row-put : (line : ℕ) (got : Option (List ℕ)) (bytes : List ℕ) → fault_of bytes ≡ None → whole_answers_of bytes ≡ answers_of bytes ++ []
-    → (whole_fault_of bytes ≡ None) × GrowsAlong got got (text_so_far line (edges_of bytes)) (text_so_far line (whole_edges_of bytes))
-no_row-put line got bytes sound grows = (
+pub no_row-put : (setup : ChannelSetup) (got : Option (List ℕ)) (bytes : List ℕ) → fault_of bytes ≡ None → whole_answers_of bytes ≡ answers_of bytes ++ []
+    → (whole_fault_of bytes ≡ None) × GrowsAlong got got (text_so_far setup (edges_of bytes)) (text_so_far setup (whole_edges_of bytes))
+no_row-put setup got bytes sound grows = (
   whole-sound bytes [] sound grows refl,
-  subst (λ (es : List Edge). GrowsAlong got got (text_so_far line (edges_of bytes)) (text_so_far line es)) (sym (no_row-edges bytes grows)) (grows-nothing got (text_so_far line (edges_of bytes))),
+  subst (λ (es : List Edge). GrowsAlong got got (text_so_far setup (edges_of bytes)) (text_so_far setup es)) (sym (no_row-edges bytes grows)) (grows-nothing got (text_so_far setup (edges_of bytes))),
 )
 
 -- the last line's row is put
-pub last_row-put : (line : ℕ) (a b : Option (List ℕ)) (bytes : List ℕ) (row : List Edge) → fault_of bytes ≡ None → whole_answers_of bytes ≡ answers_of bytes ++ Ok row ∷ []
-    → GrowsAlong a b (text_so_far line (edges_of bytes)) (text_so_far line (edges_of bytes ++ row)) → (whole_fault_of bytes ≡ None) × GrowsAlong a b (text_so_far line (edges_of bytes)) (text_so_far line (whole_edges_of bytes))
-last_row-put line a b bytes row sound grows along = (
+pub last_row-put : (setup : ChannelSetup) (a b : Option (List ℕ)) (bytes : List ℕ) (row : List Edge) → fault_of bytes ≡ None → whole_answers_of bytes ≡ answers_of bytes ++ Ok row ∷ []
+    → GrowsAlong a b (text_so_far setup (edges_of bytes)) (text_so_far setup (edges_of bytes ++ row)) → (whole_fault_of bytes ≡ None) × GrowsAlong a b (text_so_far setup (edges_of bytes)) (text_so_far setup (whole_edges_of bytes))
+last_row-put setup a b bytes row sound grows along = (
   whole-sound bytes (Ok row ∷ []) sound grows refl,
-  subst (λ (es : List Edge). GrowsAlong a b (text_so_far line (edges_of bytes)) (text_so_far line es)) (sym (last_row-edges bytes row grows)) along,
+  subst (λ (es : List Edge). GrowsAlong a b (text_so_far setup (edges_of bytes)) (text_so_far setup es)) (sym (last_row-edges bytes row grows)) along,
 )
 
 -- the last line's row is put in part
-pub last_row-cut : (line : ℕ) (a b : Option (List ℕ)) (bytes : List ℕ) (row : List Edge) → whole_answers_of bytes ≡ answers_of bytes ++ Ok row ∷ []
-    → GrowsTowards a b (text_so_far line (edges_of bytes)) (text_so_far line (edges_of bytes ++ row)) → GrowsTowards a b (text_so_far line (edges_of bytes)) (text_so_far line (whole_edges_of bytes))
-last_row-cut line a b bytes row grows cut =
-    subst (λ (es : List Edge). GrowsTowards a b (text_so_far line (edges_of bytes)) (text_so_far line es)) (sym (last_row-edges bytes row grows)) cut
+pub last_row-cut : (setup : ChannelSetup) (a b : Option (List ℕ)) (bytes : List ℕ) (row : List Edge) → whole_answers_of bytes ≡ answers_of bytes ++ Ok row ∷ []
+    → GrowsTowards a b (text_so_far setup (edges_of bytes)) (text_so_far setup (edges_of bytes ++ row)) → GrowsTowards a b (text_so_far setup (edges_of bytes)) (text_so_far setup (whole_edges_of bytes))
+last_row-cut setup a b bytes row grows cut =
+    subst (λ (es : List Edge). GrowsTowards a b (text_so_far setup (edges_of bytes)) (text_so_far setup es)) (sym (last_row-edges bytes row grows)) cut
 
 -- the last line is refused
 pub last_line-refused : (got : Option (List ℕ)) (bytes : List ℕ) (number : ℕ) (fault : LineFault) → fault_of bytes ≡ None → whole_answers_of bytes ≡ answers_of bytes ++ Err fault ∷ [] → number ≡ line_number_of bytes

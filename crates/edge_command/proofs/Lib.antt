@@ -9,3 +9,5 @@ pub mod Blocks
 pub mod Ends
 pub mod LastLines
 pub mod Pulls
+pub mod PutReports
+pub mod Joined

@@ -7,6 +7,7 @@ use Rattle.edge_trace.specs.declared.reader.EdgeReader.{EdgeReader}
 use Rattle.edge_trace.specs.Limits.{edges_of, fault_of, answers_of, line_number_of}
 use Rattle.edge_trace.specs.Readers.{StandsFor}
 use Rattle.edge_trace.proofs.Times.{edges-in_range}
+use Rattle.receiver_core.specs.declared.setup.ChannelSetup.{ChannelSetup}
 use Rattle.edge_command.specs.declared.decoder.Decoder.{Decoder}
 use Rattle.edge_command.specs.declared.run.Run.{Run}
 use Rattle.edge_command.specs.Channels.{text_so_far}
@@ -32,32 +33,32 @@ none-took old lines got bytes later before stands grows =
     let same = same_edges bytes later grows in
     record {
       reads = record { lines = stands; sound = still-sound bytes later [] before.sound grows refl; follows = subst (λ (es : List Edge). Follows old.channel es) (sym same) before.follows };
-      grows = subst (λ (es : List Edge). GrowsAlong got got (text_so_far old.channel.line (edges_of bytes)) (text_so_far old.channel.line es)) (sym same) (grows-nothing got (text_so_far old.channel.line (edges_of bytes)));
+      grows = subst (λ (es : List Edge). GrowsAlong got got (text_so_far old.channel.setup (edges_of bytes)) (text_so_far old.channel.setup es)) (sym same) (grows-nothing got (text_so_far old.channel.setup (edges_of bytes)));
     }
 
 -- a byte that ends a row, which is put
 pub row-took : (old : Run) (lines : EdgeReader) (channel : Decoder) (got got' : Option (List ℕ)) (bytes later : List ℕ) (row : List Edge) → Reads old bytes → StandsFor lines later → answers_of later ≡ answers_of bytes ++ Ok row ∷ []
-    → Follows channel (edges_of bytes ++ row) → GrowsAlong got got' (text_so_far old.channel.line (edges_of bytes)) (text_so_far old.channel.line (edges_of bytes ++ row))
+    → Follows channel (edges_of bytes ++ row) → GrowsAlong got got' (text_so_far old.channel.setup (edges_of bytes)) (text_so_far old.channel.setup (edges_of bytes ++ row))
     → TookBytes old (record { lines = lines; channel = channel }) got got' bytes later
 row-took old lines channel got got' bytes later row before stands grows follows along =
     let same = row_edges bytes later row grows in
     record {
       reads = record { lines = stands; sound = still-sound bytes later (Ok row ∷ []) before.sound grows refl; follows = subst (λ (es : List Edge). Follows channel es) (sym same) follows };
-      grows = subst (λ (es : List Edge). GrowsAlong got got' (text_so_far old.channel.line (edges_of bytes)) (text_so_far old.channel.line es)) (sym same) along;
+      grows = subst (λ (es : List Edge). GrowsAlong got got' (text_so_far old.channel.setup (edges_of bytes)) (text_so_far old.channel.setup es)) (sym same) along;
     }
 
 -- a byte that ends a row, which can't be put whole
-pub row-cut : (line : ℕ) (got got' : Option (List ℕ)) (bytes later : List ℕ) (row : List Edge) → answers_of later ≡ answers_of bytes ++ Ok row ∷ []
-    → GrowsTowards got got' (text_so_far line (edges_of bytes)) (text_so_far line (edges_of bytes ++ row)) → GrowsTowards got got' (text_so_far line (edges_of bytes)) (text_so_far line (edges_of later))
-row-cut line got got' bytes later row grows cut =
-    subst (λ (es : List Edge). GrowsTowards got got' (text_so_far line (edges_of bytes)) (text_so_far line es)) (sym (row_edges bytes later row grows)) cut
+pub row-cut : (setup : ChannelSetup) (got got' : Option (List ℕ)) (bytes later : List ℕ) (row : List Edge) → answers_of later ≡ answers_of bytes ++ Ok row ∷ []
+    → GrowsTowards got got' (text_so_far setup (edges_of bytes)) (text_so_far setup (edges_of bytes ++ row)) → GrowsTowards got got' (text_so_far setup (edges_of bytes)) (text_so_far setup (edges_of later))
+row-cut setup got got' bytes later row grows cut =
+    subst (λ (es : List Edge). GrowsTowards got got' (text_so_far setup (edges_of bytes)) (text_so_far setup es)) (sym (row_edges bytes later row grows)) cut
 
 -- a byte at which the fault is certain
-pub fault-stops : (line : ℕ) (got : Option (List ℕ)) (bytes later : List ℕ) (number : ℕ) (fault : LineFault) → fault_of bytes ≡ None → answers_of later ≡ answers_of bytes ++ Err fault ∷ [] → number ≡ line_number_of later
-    → (fault_of later ≡ Some (number, fault)) × GrowsAlong got got (text_so_far line (edges_of bytes)) (text_so_far line (edges_of later))
-fault-stops line got bytes later number fault sound grows at = (
+pub fault-stops : (setup : ChannelSetup) (got : Option (List ℕ)) (bytes later : List ℕ) (number : ℕ) (fault : LineFault) → fault_of bytes ≡ None → answers_of later ≡ answers_of bytes ++ Err fault ∷ [] → number ≡ line_number_of later
+    → (fault_of later ≡ Some (number, fault)) × GrowsAlong got got (text_so_far setup (edges_of bytes)) (text_so_far setup (edges_of later))
+fault-stops setup got bytes later number fault sound grows at = (
   first-fault bytes later (Err fault ∷ []) fault sound grows refl ∙ ap (λ (n : ℕ). Some (n, fault)) (sym at),
-  subst (λ (es : List Edge). GrowsAlong got got (text_so_far line (edges_of bytes)) (text_so_far line es)) (sym (fault_edges bytes later fault grows)) (grows-nothing got (text_so_far line (edges_of bytes))),
+  subst (λ (es : List Edge). GrowsAlong got got (text_so_far setup (edges_of bytes)) (text_so_far setup es)) (sym (fault_edges bytes later fault grows)) (grows-nothing got (text_so_far setup (edges_of bytes))),
 )
 
 -- what holds of a whole list holds of its end

@@ -1,61 +1,69 @@
--- The one channel of the command: its edges, the reports on them, and what is written of them; this project's own.
-use Rattle.std.specs.Prelude.{ℕ, ◌+◌, ◌==◌, nat_lt, Bool, true, false, is_some, List, [], ◌∷◌, ◌++◌, filter, flat_map, count_by, if◌then◌else◌}
+-- The one channel of the command: its items, the reports on them, and what is written of them; this project's own.
+use Rattle.std.specs.Io.KnownBytes.{Appends}
+use Rattle.std.specs.Prelude.{◌≡◌, ◌≤◌, length, Option, ℕ, ◌+◌, ◌==◌, ◌||◌, nat_lt, Bool, is_some, List, ◌++◌, filter, flat_map, map, if◌then◌else◌}
 use Rattle.line_base.specs.declared.edge.Edge.{Edge}
+use Rattle.line_base.specs.declared.edge.Item.{Item}
+use Rattle.line_base.specs.declared.edge.Item.TheVariants as item
 use Rattle.edge_trace.specs.Limits.{whole_edges_of, whole_fault_of}
-use Rattle.sent_frame.specs.declared.setup.CrcForm.TheVariants.{New}
-use Rattle.sent_frame.specs.declared.frame.SentStep.{SentStep}
-use Rattle.sent_frame.specs.declared.frame.SentStep.TheVariants.{Nothing, Good, Bad}
-use Rattle.sent_frame.specs.Setup.{Settings}
-use Rattle.sent_frame.specs.Pulses.{NumberedEdge}
-use Rattle.sent_frame.specs.Reading.{sent_reading}
-use Rattle.edge_command.specs.declared.report.Tally.{Tally}
-use Rattle.edge_command.specs.Texts.{line_of, total_line}
+use Rattle.receiver_core.specs.declared.report.Report.{Report}
+use Rattle.receiver_core.specs.declared.setup.ChannelSetup.{ChannelSetup}
+use Rattle.receiver_core.specs.declared.tally.Tally.{Tally}
+use Rattle.receiver_core.specs.Setups.{line_of}
+use Rattle.receiver_core.specs.Channels.{so_far, final}
+use Rattle.receiver_core.specs.Tallies.{tally_of, TellNoGap}
+use Rattle.edge_command.specs.Texts.{report_line, total_line}
 
 -- the edges of one line, in order
 unfoldable pub on_line : ℕ → List Edge → List Edge
 on_line line edges = filter (λ edge. edge.line == line) edges
 
--- these edges, numbered from this number on
-unfoldable pub numbered_from : ℕ → List Edge → List NumberedEdge
-numbered_from number [] = []
-numbered_from number (edge ∷ edges) = record { number = number; edge = edge } ∷ numbered_from (number + 1) edges
+-- the items of a channel: the edges of its line
+unfoldable pub items_on : ChannelSetup → List Edge → List Item
+items_on setup edges = map item.Edge (on_line (line_of setup) edges)
 
--- the channel's setup: a tick of 3,000 ns, a jitter of 300 ns, six nibbles, no pause, and the recommended CRC
-abbrev pub plain_setup : Settings
-plain_setup = record { tick = 3000; jitter = 300; nibbles = 6; pause = false; crc = New }
+-- the reports of a channel so far
+unfoldable pub reports_on : ChannelSetup → List Edge → List Report
+reports_on setup edges = so_far setup (items_on setup edges)
 
--- the reports of the channel on a line
-unfoldable pub reports_on : ℕ → List Edge → List SentStep
-reports_on line edges = sent_reading plain_setup (numbered_from 0 (on_line line edges))
+-- the reports of a channel, with those that the end adds
+unfoldable pub final_on : ChannelSetup → List Edge → List Report
+final_on setup edges = final setup (items_on setup edges)
 
--- the report is a good frame
-abbrev pub is_good : SentStep → Bool
-is_good Nothing = false
-is_good (Good place frame) = true
-is_good (Bad place rule) = false
-
--- the report is a violated rule
-abbrev pub is_bad : SentStep → Bool
-is_bad Nothing = false
-is_bad (Good place frame) = false
-is_bad (Bad place rule) = true
-
--- how many of these reports are good and bad
-abbrev pub tally_of : List SentStep → Tally
-tally_of reports = record { good = count_by is_good reports; bad = count_by is_bad reports; messages = 0; gaps = 0; lost = 0 }
+-- the lines of these reports
+unfoldable pub lines_of : List Report → List ℕ
+lines_of reports = flat_map (report_line 0) reports
 
 -- the report lines of these edges
-unfoldable pub text_so_far : ℕ → List Edge → List ℕ
-text_so_far line edges = flat_map (line_of 0) (reports_on line edges)
+unfoldable pub text_so_far : ChannelSetup → List Edge → List ℕ
+text_so_far setup edges = lines_of (reports_on setup edges)
 
--- the report lines of these edges, and then the channel's total line
-unfoldable pub whole_text : ℕ → List Edge → List ℕ
-whole_text line edges = text_so_far line edges ++ total_line 0 (tally_of (reports_on line edges))
+-- the report lines of these edges and of the end, and then the channel's total line
+unfoldable pub whole_text : ChannelSetup → List Edge → List ℕ
+whole_text setup edges = lines_of (final_on setup edges) ++ total_line 0 (tally_of (final_on setup edges))
 
--- the text of a whole input: the report lines of its edges, and then the channel's total line where the edge list has no fault
-unfoldable pub text_of : ℕ → List ℕ → List ℕ
-text_of line bytes = if is_some (whole_fault_of bytes) then text_so_far line (whole_edges_of bytes) else whole_text line (whole_edges_of bytes)
+-- the text of a whole input: the report lines of its edges, and then, where the edge list has no fault, those of the end and the channel's total line
+unfoldable pub text_of : ChannelSetup → List ℕ → List ℕ
+text_of setup bytes = if is_some (whole_fault_of bytes) then text_so_far setup (whole_edges_of bytes) else whole_text setup (whole_edges_of bytes)
 
--- a rule was violated
-unfoldable pub is_marked : ℕ → List Edge → Bool
-is_marked line edges = nat_lt 0 (count_by is_bad (reports_on line edges))
+-- a tally counts something bad, or a gap
+abbrev pub has_marks : Tally → Bool
+has_marks tally = nat_lt 0 tally.bad || nat_lt 0 tally.gaps
+
+-- a report tells of something bad, or of a gap
+unfoldable pub is_marked : ChannelSetup → List Edge → Bool
+is_marked setup edges = has_marks (tally_of (final_on setup edges))
+
+-- how many reports a tally has counted: each as one of good, bad, a message or a gap, or not at all
+abbrev pub counted_in : Tally → ℕ
+counted_in tally = tally.good + tally.bad + tally.messages + tally.gaps
+
+-- these reports of a list were counted and their lines were written, and the others are left
+pub record PutSoFar (old new : Tally) (got got' : Option (List ℕ)) (faults faults' : ℕ) (reports rest : List Report) : Type 0 where
+  pub put : List Report
+  pub parts : put ++ rest ≡ reports
+  pub few : counted_in new ≤ counted_in old + length put
+  pub none_lost : new.lost ≡ 0
+  pub counted : (before : List Report) → old ≡ tally_of before → new ≡ tally_of (before ++ put)
+  pub written : Appends got got' (lines_of put)
+  pub later : faults ≤ faults'
+  pub no_gap : TellNoGap rest

@@ -5,39 +5,52 @@ use Rattle.line_base.specs.Streams.{AppendsFront}
 use Rattle.line_base.specs.declared.reason.Reason.{Reason}
 use Rattle.line_base.specs.declared.reason.Reason.TheVariants as reason
 use Rattle.edge_trace.specs.Limits.{edges_of, fault_of, whole_edges_of, whole_fault_of}
+use Rattle.receiver_core.specs.declared.setup.ChannelSetup.{ChannelSetup}
 use Rattle.edge_command.specs.declared.run.Run.{Run}
 use Rattle.edge_command.specs.Channels.{text_so_far, whole_text, text_of, is_marked}
 use Rattle.edge_command.specs.Runs.{Reads}
 
--- how `decode` of the channel on a line ends on these bytes, by its reason: what is left of them, and what the output has grown by
-unfoldable pub Ended : ℕ → Reason → List ℕ → Option (List ℕ) → Option (List ℕ) → Option (List ℕ) → Type 0
+-- how far a run that stopped had read its source: by at most 4,096 bytes behind bytes without a fault, whose text was written before those were pulled
+pub record HasReadTo (setup : ChannelSetup) (bytes : List ℕ) (left' got got' : Option (List ℕ)) : Type 0 where
+  pub taken : List ℕ
+  pub block : List ℕ
+  pub rest : List ℕ
+  pub parts : bytes ≡ (taken ++ block) ++ rest
+  pub left_is : left' ≡ Some rest
+  pub small : length block ≤ 4096
+  pub sound : fault_of taken ≡ None
+  pub more : List ℕ
+  pub written : Appends got got' (text_so_far setup (edges_of taken) ++ more)
+
+-- how `decode` of a channel of this setup ends on these bytes, by its reason: what is left of them, and what the output has grown by
+unfoldable pub Ended : ChannelSetup → Reason → List ℕ → Option (List ℕ) → Option (List ℕ) → Option (List ℕ) → Type 0
 -- all was read, the edge list has no fault, no rule was violated, and the whole text was written
-Ended line reason.Clean bytes left' got got' =
-    (left' ≡ Some []) × (whole_fault_of bytes ≡ None) × (is_marked line (whole_edges_of bytes) ≡ false) × Appends got got' (whole_text line (whole_edges_of bytes))
+Ended setup reason.Clean bytes left' got got' =
+    (left' ≡ Some []) × (whole_fault_of bytes ≡ None) × (is_marked setup (whole_edges_of bytes) ≡ false) × Appends got got' (whole_text setup (whole_edges_of bytes))
 -- the same, and a rule was violated
-Ended line reason.Marked bytes left' got got' =
-    (left' ≡ Some []) × (whole_fault_of bytes ≡ None) × (is_marked line (whole_edges_of bytes) ≡ true) × Appends got got' (whole_text line (whole_edges_of bytes))
--- the edge list has this fault at this line, and the text of the lines before it was written
-Ended line (reason.Input number fault) bytes left' got got' = (whole_fault_of bytes ≡ Some (number, fault)) × Appends got got' (text_so_far line (edges_of bytes))
+Ended setup reason.Marked bytes left' got got' =
+    (left' ≡ Some []) × (whole_fault_of bytes ≡ None) × (is_marked setup (whole_edges_of bytes) ≡ true) × Appends got got' (whole_text setup (whole_edges_of bytes))
+-- the edge list has this fault at this line, the text of the lines before it was written, and the source was read no further than the pull in which the fault became certain
+Ended setup (reason.Input number fault) bytes left' got got' = (whole_fault_of bytes ≡ Some (number, fault)) × Appends got got' (text_so_far setup (edges_of bytes)) × HasReadTo setup bytes left' got got'
 -- the bytes that were taken have no fault, and the text of their whole lines was written
-Ended line reason.ReadFault bytes left' got got' =
-    (taken : List ℕ) × (rest : List ℕ) × (bytes ≡ taken ++ rest) × (left' ≡ Some rest) × (fault_of taken ≡ None) × Appends got got' (text_so_far line (edges_of taken))
--- a front of the text of the input was written
-Ended line (reason.WriteFault None) bytes left' got got' = AppendsFront got got' (text_of line bytes)
+Ended setup reason.ReadFault bytes left' got got' =
+    (taken : List ℕ) × (rest : List ℕ) × (bytes ≡ taken ++ rest) × (left' ≡ Some rest) × (fault_of taken ≡ None) × Appends got got' (text_so_far setup (edges_of taken))
+-- a front of the text of the input was written, and the source was read no further than the pull whose lines were put
+Ended setup (reason.WriteFault None) bytes left' got got' = AppendsFront got got' (text_of setup bytes) × HasReadTo setup bytes left' got got'
 -- nothing was read or written
-Ended line reason.OutOfMemory bytes left' got got' = (left' ≡ Some bytes) × Appends got got' []
+Ended setup reason.OutOfMemory bytes left' got got' = (left' ≡ Some bytes) × Appends got got' []
 -- no lane is written to, and the words were accepted
-Ended line (reason.WriteFault (Some lane)) bytes left' got got' = ⊥
-Ended line (reason.Words place fault) bytes left' got got' = ⊥
+Ended setup (reason.WriteFault (Some lane)) bytes left' got got' = ⊥
+Ended setup (reason.Words place fault) bytes left' got got' = ⊥
 
 -- how far a run has come after so many pulls that gave bytes
-pub record PulledSoFar (line pulls : ℕ) (run : Run) (left left' got got' : Option (List ℕ)) (faults faults' puts puts' : ℕ) : Type 0 where
+pub record PulledSoFar (setup : ChannelSetup) (pulls : ℕ) (run : Run) (left left' got got' : Option (List ℕ)) (faults faults' puts puts' : ℕ) : Type 0 where
   pub taken : List ℕ
-  pub line_is : run.channel.line ≡ line
+  pub setup_is : run.channel.setup ≡ setup
   pub reads : Reads run taken
   pub at_least : pulls ≤ length taken
   pub number : run.channel.number ≤ 65536 * pulls
   pub consumed : Consumes left left' taken
-  pub written : Appends got got' (text_so_far line (edges_of taken))
+  pub written : Appends got got' (text_so_far setup (edges_of taken))
   pub source_later : faults ≤ faults'
   pub sink_later : puts ≤ puts'

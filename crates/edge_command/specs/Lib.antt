@@ -1,6 +1,5 @@
 pub mod Names
 pub mod Texts
-pub mod Words
 pub mod Channels
 pub mod Writes
 pub mod Decoders

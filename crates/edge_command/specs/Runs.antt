@@ -5,6 +5,7 @@ use Rattle.line_base.specs.declared.reason.Reason.TheVariants as reason
 use Rattle.line_base.specs.Causes.{Rose}
 use Rattle.edge_trace.specs.Limits.{edges_of, fault_of}
 use Rattle.edge_trace.specs.Readers.{StandsFor}
+use Rattle.receiver_core.specs.declared.setup.ChannelSetup.{ChannelSetup}
 use Rattle.edge_command.specs.declared.run.Run.{Run}
 use Rattle.edge_command.specs.Channels.{text_so_far}
 use Rattle.edge_command.specs.Decoders.{Follows}
@@ -17,16 +18,16 @@ pub record Reads (run : Run) (bytes : List ℕ) : Type 0 where
   pub follows : Follows run.channel (edges_of bytes)
 
 -- what a run that stopped at its bytes has written since earlier ones, by its reason: at a line that is refused, the text so far; at a put that failed, a front of it
-abbrev pub Stopped : ℕ → Reason → Option (List ℕ) → Option (List ℕ) → List ℕ → List ℕ → Type 0
-Stopped line (reason.Input number fault) got got' earlier bytes =
-    (fault_of bytes ≡ Some (number, fault)) × GrowsAlong got got' (text_so_far line (edges_of earlier)) (text_so_far line (edges_of bytes))
-Stopped line (reason.WriteFault None) got got' earlier bytes = GrowsTowards got got' (text_so_far line (edges_of earlier)) (text_so_far line (edges_of bytes))
-Stopped line _ got got' earlier bytes = ⊥
+abbrev pub Stopped : ChannelSetup → Reason → Option (List ℕ) → Option (List ℕ) → List ℕ → List ℕ → Type 0
+Stopped setup (reason.Input number fault) got got' earlier bytes =
+    (fault_of bytes ≡ Some (number, fault)) × GrowsAlong got got' (text_so_far setup (edges_of earlier)) (text_so_far setup (edges_of bytes))
+Stopped setup (reason.WriteFault None) got got' earlier bytes = GrowsTowards got got' (text_so_far setup (edges_of earlier)) (text_so_far setup (edges_of bytes))
+Stopped setup _ got got' earlier bytes = ⊥
 
 -- a run took bytes up to a later list of bytes, and what it wrote went along
 pub record TookBytes (old new : Run) (got got' : Option (List ℕ)) (earlier bytes : List ℕ) : Type 0 where
   pub reads : Reads new bytes
-  pub grows : GrowsAlong got got' (text_so_far old.channel.line (edges_of earlier)) (text_so_far old.channel.line (edges_of bytes))
+  pub grows : GrowsAlong got got' (text_so_far old.channel.setup (edges_of earlier)) (text_so_far old.channel.setup (edges_of bytes))
 
 -- the sink's faults never fell, and where a put's fault is the reason, it was the output's, and they rose
 pub record IsStopOf (faults faults' : ℕ) (result : Result (Unit {0}) Reason) : Type 0 where
@@ -35,7 +36,7 @@ pub record IsStopOf (faults faults' : ℕ) (result : Result (Unit {0}) Reason) :
 
 -- these bytes of a block were taken
 pub record BlockSoFar (old new : Run) (got got' : Option (List ℕ)) (faults faults' : ℕ) (taken : List ℕ) : Type 0 where
-  pub line : new.channel.line ≡ old.channel.line
+  pub setup : new.channel.setup ≡ old.channel.setup
   pub number : new.channel.number ≤ old.channel.number + 16 * length taken
   pub took : (bytes : List ℕ) → Reads old bytes → TookBytes old new got got' bytes (bytes ++ taken)
   pub later : faults ≤ faults'

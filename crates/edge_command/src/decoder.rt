@@ -1,164 +1,213 @@
 //! One channel: edges in, report lines out.
-ghost use Rattle.std.specs.Prelude.{◌≡◌, ◌+◌, ◌-◌, ◌^◌, ◌<◌, ◌≤◌, ◌++◌, [], ◌∷◌, List, ℕ, Option, None, count_by, length, All, OnOk, OnErr};
-ghost use Rattle.line_base.specs.Causes.{HasCause};
-ghost use Rattle.line_base.specs.Streams.{PutAppends};
-ghost use Rattle.edge_command.specs.Texts.{line_of};
+ghost use Rattle.std.specs.Prelude.{◌≡◌, ◌+◌, ◌*◌, ◌^◌, ◌<◌, ◌≤◌, ◌++◌, [], ◌∷◌, List, ℕ, Option, None, length, All, OnOk, OnErr};
+ghost use Rattle.line_base.specs.Causes.{HasCause, Rose};
+ghost use Rattle.line_base.specs.Streams.{AppendsFront};
+ghost use Rattle.std.specs.Io.KnownBytes.{Appends};
+ghost use Rattle.receiver_core.specs.declared.report.Report.{Report};
+ghost use Rattle.receiver_core.specs.Tallies.{tally_of, TellNoGap};
+ghost use Rattle.edge_command.specs.Texts.{report_line};
+ghost use Rattle.edge_command.specs.Channels.{lines_of, counted_in};
 
-use crate::report::{LINE_ROOM, TOTAL_ROOM, Tally, write_step, write_total};
-use arrayvec::ArrayString;
+use crate::report::{LINE_ROOM, TOTAL_ROOM, write_report, write_total};
+use arrayvec::{ArrayString, ArrayVec};
 use edge_trace::RowEdges;
-use line_base::{Edge, Failed, Reason, Sink};
-use sent_frame::{SentReader, SentSetup, SentStep};
+use line_base::{Edge, Failed, Item, Reason, Sink};
+use receiver_core::{ChannelSetup, Receiver, Report, Tally};
 
-/// One SENT channel: its reader, the number of its next edge, and how many of its reports were good and bad.
+/// One channel: its receiver, and what is counted of its reports.
 #[derive(Drop)]
 pub struct Decoder {
-    /// The line that is read, 0 to 15.
-    pub line: u8,
-    /// The reader of its edges.
-    pub reader: SentReader,
-    /// The number of the line's next edge.
+    /// What is read, on which line.
+    pub setup: ChannelSetup,
+    /// Reads the edges of the line.
+    pub receiver: Receiver,
+    /// How many items it has taken: edges, and an end.
     pub number: u64,
-    /// How many frames were good.
-    pub good: u64,
-    /// How many rules were violated.
-    pub bad: u64,
-    ghost counted: { good + bad ≤ number },
+    /// What is counted of its reports.
+    pub tally: Tally,
+    /// Holds the reports of one item while their lines are put.
+    reports: ArrayVec<Report, 8>,
+    ghost few: { counted_in tally ≤ 8 * number },
+    ghost none_lost: { tally.lost ≡ 0 },
+    ghost empty: { reports.items ≡ [] },
 }
 
-/// Puts the line of what an edge ended.
-#[inline(never)]
-fn put_step<K: Sink>(step: &SentStep, out: &mut K) -> Result<(), Failed>
-    ensures puts { PutAppends (K.got out.old) (K.got out.new) result (line_of 0 step.now) }
+/// Puts the line of a report.
+fn put_report<K: Sink>(report: &Report, out: &mut K) -> Result<(), Failed>
+    ensures written { OnOk result (Appends (K.got out.old) (K.got out.new) (report_line 0 report.now)) }
+    ensures cut { OnErr result (AppendsFront (K.got out.old) (K.got out.new) (report_line 0 report.now)) }
     ensures cause { HasCause (K.faults out.old) (K.faults out.new) result }
 {
     let mut text = ArrayString::<LINE_ROOM>::new();
-    write_step(0, step, &mut text);
+    write_report(0, report, &mut text);
     out.put(text.as_str().as_bytes())
+}
+
+/// Counts reports that tell of no gap, and puts their lines.
+fn put_reports<K: Sink>(
+    reports: &[Report],
+    tally: &mut Tally,
+    out: &mut K,
+) -> Result<(), Failed>
+    requires room { counted_in tally.old + length reports.now < 2 ^ 64 }
+    requires no_gap { TellNoGap reports.now }
+    requires none_lost { tally.old.lost ≡ 0 }
+    ensures few { counted_in tally.new ≤ counted_in tally.old + length reports.now }
+    ensures none_lost { tally.new.lost ≡ 0 }
+    ensures counted { OnOk result ((before : List Report) → tally.old ≡ tally_of before → tally.new ≡ tally_of (before ++ reports.now)) }
+    ensures written { OnOk result (Appends (K.got out.old) (K.got out.new) (lines_of reports.now)) }
+    ensures cut { OnErr result (AppendsFront (K.got out.old) (K.got out.new) (lines_of reports.now)) }
+    ensures cause { HasCause (K.faults out.old) (K.faults out.new) result }
+{
+    let mut rest = reports;
+    'reports: while let Some((report, others)) = rest.split_first() {
+        tally.add(report);
+        put_report(report, out)?;
+        rest = others;
+    }
+    Ok(())
+}
+
+/// Counts reports that tell of no gap, puts their lines, and drops them.
+#[inline(never)]
+fn put_given<K: Sink>(
+    reports: &mut ArrayVec<Report, 8>,
+    tally: &mut Tally,
+    out: &mut K,
+) -> Result<(), Failed>
+    requires room { counted_in tally.old + 8 < 2 ^ 64 }
+    requires no_gap { TellNoGap reports.old.items }
+    requires none_lost { tally.old.lost ≡ 0 }
+    ensures dropped { reports.new.items ≡ [] }
+    ensures few { counted_in tally.new ≤ counted_in tally.old + 8 }
+    ensures none_lost { tally.new.lost ≡ 0 }
+    ensures counted { OnOk result ((before : List Report) → tally.old ≡ tally_of before → tally.new ≡ tally_of (before ++ reports.old.items)) }
+    ensures written { OnOk result (Appends (K.got out.old) (K.got out.new) (lines_of reports.old.items)) }
+    ensures cut { OnErr result (AppendsFront (K.got out.old) (K.got out.new) (lines_of reports.old.items)) }
+    ensures cause { HasCause (K.faults out.old) (K.faults out.new) result }
+{
+    let result = put_reports(reports.as_slice(), tally, out);
+    reports.clear();
+    result
 }
 
 impl Decoder {
     ghost use Rattle.line_base.specs.declared.edge.Edge.{Edge};
-    ghost use Rattle.line_base.specs.Causes.{HasCause, Rose};
     ghost use Rattle.line_base.specs.declared.reason.Reason.TheVariants as reason;
-    ghost use Rattle.edge_command.specs.Totals.{Totalled, IsOfRun};
+    ghost use Rattle.receiver_core.specs.declared.setup.ChannelSetup.{ChannelSetup};
+    ghost use Rattle.receiver_core.specs.Setups.{setup_fault_of, line_of};
+    ghost use Rattle.edge_command.specs.Totals.{TotalPut, Totalled, IsOfRun};
     ghost use Rattle.edge_command.specs.Decoders.{Follows};
     ghost use Rattle.edge_command.specs.Writes.{GrowsAlong, GrowsTowards};
-    ghost use Rattle.edge_command.specs.Channels.{plain_setup, text_so_far, is_good, is_bad};
-    ghost use Rattle.sent_frame.specs.Positions.{steps_of};
-    ghost use Rattle.edge_command.specs.Texts.{line_of};
+    ghost use Rattle.edge_command.specs.Channels.{final_on, text_so_far};
 
-    /// A channel of this setup on a line, 0 to 15, that has taken no edge.
-    pub fn new(line: u8, setup: SentSetup) -> Decoder
-        requires { setup ≡ plain_setup }
-        ensures line { result.line ≡ line }
+    /// A channel of this setup, which has no fault, that has taken no edge.
+    pub fn new(setup: &ChannelSetup) -> Decoder
+        requires { setup_fault_of setup.now ≡ None }
+        ensures setup { result.setup ≡ setup.now }
         ensures number { result.number ≡ 0 }
         ensures follows { Follows result [] }
     {
         Decoder {
-            line,
-            reader: SentReader::new(setup),
+            setup: *setup,
+            receiver: Receiver::new(*setup),
             number: 0,
-            good: 0,
-            bad: 0,
+            tally: Tally::new(),
+            reports: ArrayVec::new(),
         }
     }
 
-    /// Takes the next edge of the list, and answers what it ends on the channel's line.
-    pub fn push(&mut self, edge: Edge) -> SentStep
-        requires room { self.old.number < 2 ^ 64 - 1 }
+    /// Takes the next edge of the channel's line, and puts the lines of the reports that it gives.
+    #[inline]
+    fn put_edge<K: Sink>(&mut self, edge: Edge, out: &mut K) -> Result<(), Failed>
+        requires room { self.old.number < 2 ^ 60 }
         requires in_range { edge.time ≤ 10 ^ 15 }
-        ensures follows { (edges : List Edge) → Follows self.old edges → Follows self.new (edges ++ edge ∷ []) }
-        ensures grows { (edges : List Edge) → Follows self.old edges
-            → text_so_far self.old.line (edges ++ edge ∷ []) ≡ text_so_far self.old.line edges ++ line_of 0 result }
-        ensures line { self.new.line ≡ self.old.line }
-        ensures number { self.new.number ≤ self.old.number + 1 }
-    {
-        if edge.line != self.line {
-            return SentStep::Nothing;
-        }
-        let number = self.number;
-        let step = self.reader.push(number, edge);
-        self.number = number + 1;
-        self.count(&step);
-        step
-    }
-
-    /// Counts what an edge ended.
-    fn count(&mut self, step: &SentStep)
-        requires { self.old.good + self.old.bad < self.old.number }
-        ensures line { self.new.line ≡ self.old.line }
-        ensures reader { self.new.reader ≡ self.old.reader }
-        ensures number { self.new.number ≡ self.old.number }
-        ensures good { self.new.good ≡ self.old.good + count_by is_good (steps_of step.now) }
-        ensures bad { self.new.bad ≡ self.old.bad + count_by is_bad (steps_of step.now) }
-    {
-        match step {
-            SentStep::Nothing => {}
-            SentStep::Good { .. } => self.good += 1,
-            SentStep::Bad { .. } => self.bad += 1,
-        }
-    }
-
-    /// Takes the next edge of the list, and puts the line of what it ends.
-    pub fn put_edge<K: Sink>(&mut self, edge: Edge, out: &mut K) -> Result<(), Failed>
-        requires room { self.old.number < 2 ^ 64 - 1 }
-        requires in_range { edge.time ≤ 10 ^ 15 }
-        ensures line { self.new.line ≡ self.old.line }
-        ensures number { self.new.number ≤ self.old.number + 1 }
+        requires on_line { edge.line ≡ line_of self.old.setup }
+        requires follows { (edges : List Edge) × Follows self.old edges }
+        ensures setup { self.new.setup ≡ self.old.setup }
+        ensures number { self.new.number ≡ self.old.number + 1 }
         ensures follows { OnOk result ((edges : List Edge) → Follows self.old edges → Follows self.new (edges ++ edge ∷ [])) }
         ensures grows { OnOk result ((edges : List Edge) → Follows self.old edges
-            → GrowsAlong (K.got out.old) (K.got out.new) (text_so_far self.old.line edges) (text_so_far self.old.line (edges ++ edge ∷ []))) }
+            → GrowsAlong (K.got out.old) (K.got out.new) (text_so_far self.old.setup edges) (text_so_far self.old.setup (edges ++ edge ∷ []))) }
         ensures cut { OnErr result ((edges : List Edge) → Follows self.old edges
-            → GrowsTowards (K.got out.old) (K.got out.new) (text_so_far self.old.line edges) (text_so_far self.old.line (edges ++ edge ∷ []))) }
+            → GrowsTowards (K.got out.old) (K.got out.new) (text_so_far self.old.setup edges) (text_so_far self.old.setup (edges ++ edge ∷ []))) }
         ensures cause { HasCause (K.faults out.old) (K.faults out.new) result }
     {
-        let step = self.push(edge);
-        if matches!(step, SentStep::Nothing) {
+        self.receiver.push_into(Item::Edge(edge), &mut self.reports);
+        self.number += 1;
+        if self.reports.is_empty() {
             return Ok(());
         }
-        put_step(&step, out)
+        put_given(&mut self.reports, &mut self.tally, out)
     }
 
-    /// Takes the edges of a row, and puts the lines of what they end.
+    /// Takes the edges of a row, and puts the lines of the reports that they give.
     pub fn put_row<K: Sink>(&mut self, row: &RowEdges, out: &mut K) -> Result<(), Failed>
-        requires room { self.old.number + length row.now < 2 ^ 64 }
+        requires room { self.old.number < 2 ^ 60 }
         requires in_range { All (λ edge. edge.time ≤ 10 ^ 15) row.now }
-        ensures line { self.new.line ≡ self.old.line }
+        requires follows { (edges : List Edge) × Follows self.old edges }
+        ensures setup { self.new.setup ≡ self.old.setup }
         ensures number { self.new.number ≤ self.old.number + length row.now }
         ensures follows { OnOk result ((edges : List Edge) → Follows self.old edges → Follows self.new (edges ++ row.now)) }
         ensures grows { OnOk result ((edges : List Edge) → Follows self.old edges
-            → GrowsAlong (K.got out.old) (K.got out.new) (text_so_far self.old.line edges) (text_so_far self.old.line (edges ++ row.now))) }
+            → GrowsAlong (K.got out.old) (K.got out.new) (text_so_far self.old.setup edges) (text_so_far self.old.setup (edges ++ row.now))) }
         ensures cut { OnErr result ((edges : List Edge) → Follows self.old edges
-            → GrowsTowards (K.got out.old) (K.got out.new) (text_so_far self.old.line edges) (text_so_far self.old.line (edges ++ row.now))) }
+            → GrowsTowards (K.got out.old) (K.got out.new) (text_so_far self.old.setup edges) (text_so_far self.old.setup (edges ++ row.now))) }
         ensures cause { HasCause (K.faults out.old) (K.faults out.new) result }
     {
-        match row.edge_on(self.line) {
+        match row.edge_on(self.setup.line()) {
             None => Ok(()),
             Some(edge) => self.put_edge(edge, out),
         }
     }
 
-    /// Puts the channel's total line, and says how the run ended.
-    pub fn put_total<K: Sink>(&self, out: &mut K) -> Reason
+    /// Takes the end, and puts the lines of the reports that it gives.
+    fn put_end<K: Sink>(&mut self, out: &mut K) -> Result<(), Failed>
+        requires room { self.old.number < 2 ^ 60 }
+        requires follows { (edges : List Edge) × Follows self.old edges }
+        ensures setup { self.new.setup ≡ self.old.setup }
+        ensures counted { OnOk result ((edges : List Edge) → Follows self.old edges → self.new.tally ≡ tally_of (final_on self.old.setup edges)) }
+        ensures grows { OnOk result ((edges : List Edge) → Follows self.old edges
+            → GrowsAlong (K.got out.old) (K.got out.new) (text_so_far self.old.setup edges) (lines_of (final_on self.old.setup edges))) }
+        ensures cut { OnErr result ((edges : List Edge) → Follows self.old edges
+            → GrowsTowards (K.got out.old) (K.got out.new) (text_so_far self.old.setup edges) (lines_of (final_on self.old.setup edges))) }
+        ensures cause { HasCause (K.faults out.old) (K.faults out.new) result }
+    {
+        self.receiver.push_into(Item::End, &mut self.reports);
+        self.number += 1;
+        put_given(&mut self.reports, &mut self.tally, out)
+    }
+
+    /// Puts the total line of what was counted, and says how the run ended.
+    fn put_total<K: Sink>(&self, out: &mut K) -> Reason
         ensures kind { IsOfRun result }
-        ensures ends { (edges : List Edge) → Follows self.now edges → Totalled self.now.line result (K.got out.old) (K.got out.new) edges }
+        ensures ends { TotalPut result (K.got out.old) (K.got out.new) self.now.tally }
         ensures later { K.faults out.old ≤ K.faults out.new }
         ensures write { (lane : Option ℕ) → result ≡ reason.WriteFault lane → (lane ≡ None) × Rose (K.faults out.old) (K.faults out.new) }
     {
-        let tally = Tally {
-            good: self.good,
-            bad: self.bad,
-            messages: 0,
-            gaps: 0,
-            lost: 0,
-        };
+        let marked = self.tally.bad > 0 || self.tally.gaps > 0;
         let mut text = ArrayString::<TOTAL_ROOM>::new();
-        write_total(0, &tally, &mut text);
+        write_total(0, &self.tally, &mut text);
         match out.put(text.as_str().as_bytes()) {
             Err(Failed) => Reason::WriteFault { lane: None },
-            Ok(()) if self.bad > 0 => Reason::Marked,
+            Ok(()) if marked => Reason::Marked,
             Ok(()) => Reason::Clean,
+        }
+    }
+
+    /// Takes the end, puts the lines of the reports that it gives and the channel's total line, and says how
+    /// the run ended.
+    pub fn finish<K: Sink>(&mut self, out: &mut K) -> Reason
+        requires room { self.old.number < 2 ^ 60 }
+        requires follows { (edges : List Edge) × Follows self.old edges }
+        ensures kind { IsOfRun result }
+        ensures ends { (edges : List Edge) → Follows self.old edges → Totalled self.old.setup result (K.got out.old) (K.got out.new) edges }
+        ensures later { K.faults out.old ≤ K.faults out.new }
+        ensures write { (lane : Option ℕ) → result ≡ reason.WriteFault lane → (lane ≡ None) × Rose (K.faults out.old) (K.faults out.new) }
+    {
+        match self.put_end(out) {
+            Err(Failed) => Reason::WriteFault { lane: None },
+            Ok(()) => self.put_total(out),
         }
     }
 }

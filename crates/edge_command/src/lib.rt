@@ -8,7 +8,5 @@ mod report;
 mod run;
 #[cfg(test)]
 mod tests;
-mod words;
 
 pub use plain::{Plain, run_plain};
-pub use words::{WordsFault, read_words};

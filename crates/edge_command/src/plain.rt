@@ -3,18 +3,17 @@ ghost use Rattle.std.specs.Prelude.{◌≡◌, ◌↔◌, Err, IsErr, ◌+◌, �
 ghost use Rattle.line_base.specs.Causes.{Rose};
 ghost use Rattle.line_base.specs.Reasons.{status_of};
 ghost use Rattle.line_base.specs.declared.reason.Reason.TheVariants as reason;
-ghost use Rattle.edge_command.specs.Channels.{plain_setup};
-ghost use Rattle.edge_command.specs.Decoders.{Follows};
+ghost use Rattle.receiver_core.specs.Setups.{setup_fault_of};
+ghost use Rattle.link_words.specs.Commands.{words_read, refused, channel_in};
 ghost use Rattle.edge_command.specs.Ended.{Ended};
 ghost use Rattle.edge_command.specs.Totals.{IsOfRun};
-ghost use Rattle.edge_command.specs.Words.{words_read, refused};
 ghost use Rattle.line_base.specs.declared.faults.WordFault.{WordFault};
 
 use crate::decoder::Decoder;
 use crate::run::Run;
-use crate::words::{WordsFault, read_words};
 use line_base::{Failed, Reason, Sink, Source};
-use sent_frame::{CrcForm, SentSetup};
+use link_words::{Command, WordsFault, read_words};
+use receiver_core::ChannelSetup;
 use std::alloc::{AllocError, Global};
 
 /// How many bytes are pulled at once.
@@ -32,17 +31,6 @@ pub struct Plain {
     pub reason: Reason,
 }
 
-/// The setup of the one channel: a tick of 3,000 ns, a jitter of 300 ns, six nibbles, no pause, the
-/// recommended CRC.
-fn setup() -> SentSetup
-    ensures { result ≡ plain_setup }
-{
-    match SentSetup::new(3_000, 300, 6, false, CrcForm::New) {
-        Ok(setup) => setup,
-        Err(_) => unreachable!(),
-    }
-}
-
 /// A buffer for pulls, of 1 to 4,096 bytes.
 fn read_buffer(alloc: Global) -> Result<Vec<u8>, AllocError>
     ensures some { IfOk result (λ buffer. 0 < vec_len buffer) }
@@ -51,18 +39,24 @@ fn read_buffer(alloc: Global) -> Result<Vec<u8>, AllocError>
     vec![in alloc; 0u8; READ_SIZE]
 }
 
-/// Decodes the channel on a line from all of a source's bytes, and puts the text.
-fn decode<S: Source, K: Sink>(line: u8, buffer: &mut [u8], source: &mut S, out: &mut K) -> Reason
+/// Decodes a channel, whose setup has no fault, from all of a source's bytes, and puts the text.
+fn decode<S: Source, K: Sink>(
+    setup: ChannelSetup,
+    buffer: &mut [u8],
+    source: &mut S,
+    out: &mut K,
+) -> Reason
+    requires no_fault { setup_fault_of setup ≡ None }
     requires some { 0 < length buffer.old }
     requires small { length buffer.old ≤ 4096 }
     ensures kind { IsOfRun result }
-    ensures ended { IfSome (S.left source.old) (λ bytes. Ended line result bytes (S.left source.new) (K.got out.old) (K.got out.new)) }
+    ensures ended { IfSome (S.left source.old) (λ bytes. Ended setup result bytes (S.left source.new) (K.got out.old) (K.got out.new)) }
     ensures read { result ≡ reason.ReadFault → Rose (S.faults source.old) (S.faults source.new) }
     ensures write { (lane : Option ℕ) → result ≡ reason.WriteFault lane → (lane ≡ None) × Rose (K.faults out.old) (K.faults out.new) }
     ensures source_later { S.faults source.old ≤ S.faults source.new }
     ensures sink_later { K.faults out.old ≤ K.faults out.new }
 {
-    let mut run = Run::new(Decoder::new(line, setup()));
+    let mut run = Run::new(Decoder::new(&setup));
     for _pull in 0..MAX_PULLS {
         let count = match source.pull(buffer) {
             Ok(count) => count,
@@ -82,22 +76,22 @@ fn decode<S: Source, K: Sink>(line: u8, buffer: &mut [u8], source: &mut S, out: 
 /// source's bytes came to.
 fn run<S: Source, K: Sink>(alloc: Global, words: &[String], source: &mut S, out: &mut K) -> Reason
     ensures words { (place : ℕ) (fault : WordFault) →
-        (result ≡ reason.Words place fault) ↔ (words_read (map string_bytes words.now) ≡ Err (refused place fault)) }
+        (result ≡ reason.Words place fault) ↔ (words_read (map string_bytes words.now) ≡ refused place fault) }
     ensures refused { IsErr (words_read (map string_bytes words.now)) → (source.new ≡ source.old) × (out.new ≡ out.old) }
     ensures memory { result ≡ reason.OutOfMemory → (source.new ≡ source.old) × (out.new ≡ out.old) }
-    ensures ended { IfOk (words_read (map string_bytes words.now)) (λ line. IfSome (S.left source.old)
-        (λ bytes. Ended line result bytes (S.left source.new) (K.got out.old) (K.got out.new))) }
+    ensures ended { IfOk (words_read (map string_bytes words.now)) (λ command. IfSome (S.left source.old)
+        (λ bytes. Ended (channel_in command) result bytes (S.left source.new) (K.got out.old) (K.got out.new))) }
     ensures read { result ≡ reason.ReadFault → Rose (S.faults source.old) (S.faults source.new) }
     ensures write { (lane : Option ℕ) → result ≡ reason.WriteFault lane → (lane ≡ None) × Rose (K.faults out.old) (K.faults out.new) }
     ensures source_later { S.faults source.old ≤ S.faults source.new }
     ensures sink_later { K.faults out.old ≤ K.faults out.new }
 {
-    let line = match read_words(words) {
-        Ok(line) => line,
+    let setup = match read_words(words) {
+        Ok(Command::Decode(setup)) => setup,
         Err(WordsFault { place, fault }) => return Reason::Words { place, fault },
     };
     match read_buffer(alloc) {
-        Ok(mut buffer) => decode(line, buffer.as_mut_slice(), source, out),
+        Ok(mut buffer) => decode(setup, buffer.as_mut_slice(), source, out),
         Err(AllocError) => Reason::OutOfMemory,
     }
 }
@@ -114,13 +108,13 @@ pub fn run_plain<S: Source, K: Sink>(
 
     // The words are refused exactly where they are outside the grammar, and nothing is pulled or put then.
     ensures words { (place : ℕ) (fault : WordFault) →
-        (result.reason ≡ reason.Words place fault) ↔ (words_read (map string_bytes words.now) ≡ Err (refused place fault)) }
+        (result.reason ≡ reason.Words place fault) ↔ (words_read (map string_bytes words.now) ≡ refused place fault) }
     ensures refused { IsErr (words_read (map string_bytes words.now)) → (source.new ≡ source.old) × (out.new ≡ out.old) }
     ensures memory { result.reason ≡ reason.OutOfMemory → (source.new ≡ source.old) × (out.new ≡ out.old) }
 
     // Where source and sink tell their bytes: what was read and written, for each reason.
-    ensures ended { IfOk (words_read (map string_bytes words.now)) (λ line. IfSome (S.left source.old)
-        (λ bytes. Ended line result.reason bytes (S.left source.new) (K.got out.old) (K.got out.new))) }
+    ensures ended { IfOk (words_read (map string_bytes words.now)) (λ command. IfSome (S.left source.old)
+        (λ bytes. Ended (channel_in command) result.reason bytes (S.left source.new) (K.got out.old) (K.got out.new))) }
 
     // A fault is answered only where it was counted.
     ensures read { result.reason ≡ reason.ReadFault → Rose (S.faults source.old) (S.faults source.new) }

@@ -38,14 +38,14 @@ impl Run {
     /// Takes the next byte, and puts the lines of what it ends.
     #[inline(always)]
     pub fn take_byte<K: Sink>(&mut self, byte: u8, out: &mut K) -> Result<(), Reason>
-        requires room { self.old.channel.number + 16 < 2 ^ 64 }
+        requires room { self.old.channel.number < 2 ^ 60 }
         requires reads { (bytes : List ℕ) × Reads self.old bytes }
-        ensures line { self.new.channel.line ≡ self.old.channel.line }
+        ensures setup { self.new.channel.setup ≡ self.old.channel.setup }
         ensures number { self.new.channel.number ≤ self.old.channel.number + 16 }
         ensures took { OnOk result ((bytes : List ℕ) → Reads self.old bytes
             → TookBytes self.old self.new (K.got out.old) (K.got out.new) bytes (bytes ++ byte ∷ [])) }
         ensures stopped { IfErr result (λ reason. (bytes : List ℕ) → Reads self.old bytes
-            → Stopped self.old.channel.line reason (K.got out.old) (K.got out.new) bytes (bytes ++ byte ∷ [])) }
+            → Stopped self.old.channel.setup reason (K.got out.old) (K.got out.new) bytes (bytes ++ byte ∷ [])) }
         ensures kind { IfErr result IsOfRun }
         ensures cause { IsStopOf (K.faults out.old) (K.faults out.new) result }
     {
@@ -64,14 +64,14 @@ impl Run {
 
     /// Takes the bytes of a block, and puts the lines of what each ends before the next is looked at.
     pub fn take_block<K: Sink>(&mut self, block: &[u8], out: &mut K) -> Result<(), Reason>
-        requires room { self.old.channel.number + 16 * length block.now < 2 ^ 64 }
+        requires room { self.old.channel.number + 16 * length block.now < 2 ^ 60 }
         requires reads { (bytes : List ℕ) × Reads self.old bytes }
-        ensures line { self.new.channel.line ≡ self.old.channel.line }
+        ensures setup { self.new.channel.setup ≡ self.old.channel.setup }
         ensures number { self.new.channel.number ≤ self.old.channel.number + 16 * length block.now }
         ensures took { OnOk result ((bytes : List ℕ) → Reads self.old bytes
             → TookBytes self.old self.new (K.got out.old) (K.got out.new) bytes (bytes ++ block.now)) }
         ensures stopped { IfErr result (λ reason. (bytes : List ℕ) → Reads self.old bytes
-            → Stopped self.old.channel.line reason (K.got out.old) (K.got out.new) bytes (bytes ++ block.now)) }
+            → Stopped self.old.channel.setup reason (K.got out.old) (K.got out.new) bytes (bytes ++ block.now)) }
         ensures kind { IfErr result IsOfRun }
         ensures cause { IsStopOf (K.faults out.old) (K.faults out.new) result }
     {
@@ -89,11 +89,12 @@ impl Run {
 
     /// The input has ended: takes what its unfinished last line is, and puts the lines of what it ends.
     fn put_last<K: Sink>(&mut self, out: &mut K) -> Result<(), Reason>
-        requires room { self.old.channel.number + 16 < 2 ^ 64 }
+        requires room { self.old.channel.number < 2 ^ 60 }
         requires reads { (bytes : List ℕ) × Reads self.old bytes }
-        ensures line { self.new.channel.line ≡ self.old.channel.line }
+        ensures setup { self.new.channel.setup ≡ self.old.channel.setup }
+        ensures number { self.new.channel.number ≤ self.old.channel.number + 16 }
         ensures follows { OnOk result ((bytes : List ℕ) → Reads self.old bytes → Follows self.new.channel (whole_edges_of bytes)) }
-        ensures put { (bytes : List ℕ) → Reads self.old bytes → LastPut self.old.channel.line result (K.got out.old) (K.got out.new) bytes }
+        ensures put { (bytes : List ℕ) → Reads self.old bytes → LastPut self.old.channel.setup result (K.got out.old) (K.got out.new) bytes }
         ensures kind { IfErr result IsOfRun }
         ensures cause { IsStopOf (K.faults out.old) (K.faults out.new) result }
     {
@@ -113,16 +114,16 @@ impl Run {
     /// The input has ended: takes what its unfinished last line is, puts the total line, and says how the
     /// run ended.
     pub fn finish<K: Sink>(&mut self, out: &mut K) -> Reason
-        requires room { self.old.channel.number + 16 < 2 ^ 64 }
+        requires room { self.old.channel.number + 16 < 2 ^ 60 }
         requires reads { (bytes : List ℕ) × Reads self.old bytes }
         ensures kind { IsOfRun result }
-        ensures ends { (bytes : List ℕ) → Reads self.old bytes → Finished self.old.channel.line result (K.got out.old) (K.got out.new) bytes }
+        ensures ends { (bytes : List ℕ) → Reads self.old bytes → Finished self.old.channel.setup result (K.got out.old) (K.got out.new) bytes }
         ensures later { K.faults out.old ≤ K.faults out.new }
         ensures write { (lane : Option ℕ) → result ≡ reason.WriteFault lane → (lane ≡ None) × Rose (K.faults out.old) (K.faults out.new) }
     {
         match self.put_last(out) {
             Err(reason) => reason,
-            Ok(()) => self.channel.put_total(out),
+            Ok(()) => self.channel.finish(out),
         }
     }
 }

@@ -2,6 +2,7 @@
 
 mod broken;
 mod lists;
+mod messages;
 mod refused;
 mod traces;
 

@@ -8,13 +8,21 @@ usage: pulselink decode SPEC < EDGES
        pulselink --help | -h
        pulselink --version | -V
 
-decode writes a line for each frame and each violated rule, and then the
-channel's total line.
+decode writes a line for each frame, value, serial message and violated rule,
+and then the channel's total line.
 
-SPEC names one channel: a kind, a colon and pairs KEY=VALUE.
-  sent:line=N   a SENT channel (SAE J2716) on line N, 0 to 15: a nominal tick
-                of 3,000 ns, up to 300 ns of jitter, six data nibbles, no pause
-                pulse, the recommended CRC-4
+SPEC names one channel: a kind, a colon and pairs KEY=VALUE parted by commas.
+  sent:line=N   a SENT channel (SAE J2716); its keys, with what is usual:
+    line      0 to 15                                  must be there
+    tick      3000 to 90000, in ns                     3000
+    jitter    1 to 9000, in ns, at most tick/10        tick/10
+    nibbles   1 to 6 data nibbles                      6
+    pause     no, yes: a pause pulse after each frame  no
+    crc       new, legacy: the recommended CRC-4, or   new
+              the legacy one
+    layout    raw, one12 (3 nibbles), two12, secure12  raw
+              and split16_8 (6 nibbles)
+    serial    none, short, enhanced                    none
 
 EDGES is an edge list on standard input, at most 512 bytes a line:
   narrow   TIME,LINE,LEVEL          a time in ns, a line 0 to 15, a level 0 or 1
@@ -35,5 +43,6 @@ statuses
 
 examples
   pulselink decode sent:line=0 < examples/three_frames.txt
+  pulselink decode sent:line=0,serial=short < examples/short_message.txt
   printf '0,0,1\\n' | pulselink decode sent:line=0
   pulselink decode sent:line=3 < capture.csv > reports.txt";

@@ -1,8 +1,10 @@
 //! A pull or a put that fails within a run.
 
-use super::{FRAME, MARKED, Trial, expect};
-use crate::Plain;
-use line_base::Reason;
+ghost use Rattle.std.specs.Prelude.{None};
+
+use super::{FRAME, MARKED, Trial, expect, words_of};
+use crate::{Plain, run_plain};
+use line_base::{Failed, MemorySink, Reason, Source};
 use std::alloc::AllocError;
 
 /// Two frames: the first has a data nibble 1 and the CRC of zeros. Its last row ends at byte 215, the
@@ -84,6 +86,45 @@ fn where_a_put_fails_the_lines_before_it_are_written(rt: HostRuntime) -> Result<
         (4, MARKED, WHOLE),
     ] {
         expect(&rt, rt.alloc(), failing(TWO_FRAMES, 0, put), ended, written)?;
+    }
+    Ok(())
+}
+
+/// Gives the two frames in pieces of 20 bytes, and counts the pulls.
+#[derive(Drop)]
+struct Counting {
+    pulls: usize,
+}
+
+impl Source for Counting {
+    ghost left = { λ s. None };
+
+    ghost faults = { λ s. 0 };
+
+    fn pull(&mut self, buf: &mut [u8]) -> Result<usize, Failed> {
+        let start = self.pulls.saturating_mul(20);
+        self.pulls = self.pulls.saturating_add(1);
+        let Some(rest) = TWO_FRAMES.as_bytes().get(start..) else {
+            return Ok(0);
+        };
+        let count = rest.len().min(20).min(buf.len());
+        for (cell, byte) in buf.iter_mut().zip(rest.iter().take(count)) {
+            *cell = *byte;
+        }
+        Ok(count)
+    }
+}
+
+#[test]
+fn a_line_is_put_before_the_next_pull(rt: HostRuntime) -> Result<(), AllocError> {
+    let words = words_of(rt.alloc(), "decode sent:line=0")?;
+    for (put, pulls) in [(1, 11), (2, 22), (3, 23)] {
+        let mut source = Counting { pulls: 0 };
+        let puts = Vec::from_slice(rt.alloc(), &[put])?;
+        let mut sink = MemorySink::new(rt.alloc(), 4_096, puts)?;
+        let plain = run_plain(rt.alloc(), &words, &mut source, &mut sink);
+        assert_eq!(rt; plain, WRITE_FAULT, "{put}");
+        assert_eq!(rt; source.pulls, pulls, "{put}");
     }
     Ok(())
 }

@@ -1,9 +1,9 @@
 //! Words and lists that are refused.
 
-use super::{FRAME, Trial, decode, expect, words_of};
-use crate::{Plain, read_words};
+use super::{FRAME, Trial, decode, expect};
+use crate::Plain;
 use line_base::LineFault::{Field, Level, Line, LineTooLong, Number, TimeBack, TooLarge, Version};
-use line_base::WordFault::{Missing, NotBuilt};
+use line_base::WordFault::{Absent, Command, Key, Kind, Missing, NotBuilt, Setup, Value};
 use line_base::{LineFault, Reason};
 use std::alloc::AllocError;
 
@@ -19,14 +19,16 @@ const fn faulty(line: u64, fault: LineFault) -> Plain {
 fn where_a_word_is_refused_nothing_is_pulled_or_put(rt: HostRuntime) -> Result<(), AllocError> {
     for (words, place, fault) in [
         ("", 1, Missing),
-        ("play", 1, NotBuilt),
-        ("Decode sent:line=0", 1, NotBuilt),
         ("decode", 2, Missing),
+        ("play", 1, Command),
+        ("check sent:line=0", 1, NotBuilt),
+        ("decode sent", 2, Kind),
         ("decode psi5:line=1", 2, NotBuilt),
-        ("decode sent:line=16", 2, NotBuilt),
-        ("decode sent:line=", 2, NotBuilt),
-        ("decode sent:line=1x", 2, NotBuilt),
-        ("decode sent:line=256 sent:line=0", 2, NotBuilt),
+        ("decode sent:line=0,line=1", 2, Key),
+        ("decode sent:line=16", 2, Value),
+        ("decode sent:tick=3000", 2, Absent),
+        ("decode sent:line=0,jitter=301", 2, Setup),
+        ("decode sent:nibbles=3,line=0,layout=two12", 2, Setup),
         ("decode sent:line=0 sent:line=1", 3, NotBuilt),
     ] {
         let trial = Trial {
@@ -41,20 +43,6 @@ fn where_a_word_is_refused_nothing_is_pulled_or_put(rt: HostRuntime) -> Result<(
             reason: Reason::Words { place, fault },
         };
         expect(&rt, rt.alloc(), trial, ended, "")?;
-    }
-    Ok(())
-}
-
-#[test]
-fn words_name_a_line(rt: HostRuntime) -> Result<(), AllocError> {
-    for (text, line) in [
-        ("decode sent:line=0", 0),
-        ("decode sent:line=9", 9),
-        ("decode sent:line=15", 15),
-        ("decode sent:line=007", 7),
-    ] {
-        let words = words_of(rt.alloc(), text)?;
-        assert_eq!(rt; read_words(&words), Ok(line), "{text}");
     }
     Ok(())
 }

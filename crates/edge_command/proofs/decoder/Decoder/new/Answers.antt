@@ -1,14 +1,8 @@
-use Rattle.std.proofs.Common.{[], subst}
-use Rattle.sent_frame.specs.Setup.{Settings}
-use Rattle.sent_frame.specs.Readers.{StandsFor}
-use Rattle.edge_command.specs.Channels.{is_good, is_bad}
-use Rattle.edge_command.proofs.OneMore.{nothing-stands, nothing-numbered, nothing-counted}
+-- A new decoder has taken no edge.
+use Rattle.std.proofs.Common.{refl}
+use Rattle.receiver_core.proofs.ReportFronts.{so_far-none}
+use Rattle.edge_command.proofs.OneMore.{nothing-follows}
 use Rattle.edge_command.proofs.decoder.Decoder.new.Goals as goal
 
 pub returns-clause-follows : goal.returns-clause-follows
-returns-clause-follows c = record {
-  reads = nothing-stands c.args.line c.new.result (subst (λ (s : Settings). StandsFor s c.new.result []) c.requires c.new.ensures);
-  numbered = nothing-numbered c.args.line;
-  good = nothing-counted is_good c.args.line;
-  bad = nothing-counted is_bad c.args.line;
-}
+returns-clause-follows c = nothing-follows _ c.new.ensures refl c.new-2.ensures (so_far-none c.args.setup.now)

@@ -11,12 +11,15 @@ put_row-requires-clause-in_range g c =
     let grows : whole_answers_of bytes ≡ answers_of bytes ++ Ok c.in-Some-Ok.row.edges ∷ [] = rw c.in-Some-Ok.field-0-is at (c.in-Some-Ok.ensures.whole bytes c.requires.reads.1.lines) in
     last_row-in_range bytes c.in-Some-Ok.row.edges grows
 
+pub put_row-requires-clause-follows : goal.put_row-requires-clause-follows
+put_row-requires-clause-follows g c = (edges_of c.requires.reads.0, c.requires.reads.1.follows)
+
 pub returns-in-None-clause-follows : goal.returns-in-None-clause-follows
 returns-in-None-clause-follows g c = λ bytes before.
     subst (λ (es : List Edge). Follows c.args.self.now.channel es) (sym (no_row-edges bytes (c.in-None.ensures.whole bytes before.lines))) before.follows
 
 pub returns-in-None-clause-put : goal.returns-in-None-clause-put
-returns-in-None-clause-put g c = λ bytes before. no_row-put c.args.self.now.channel.line _ bytes before.sound (c.in-None.ensures.whole bytes before.lines)
+returns-in-None-clause-put g c = λ bytes before. no_row-put c.args.self.now.channel.setup _ bytes before.sound (c.in-None.ensures.whole bytes before.lines)
 
 pub returns-in-Ok-clause-follows : goal.returns-in-Ok-clause-follows
 returns-in-Ok-clause-follows g c = λ bytes before.
@@ -25,12 +28,12 @@ returns-in-Ok-clause-follows g c = λ bytes before.
 
 pub returns-in-Ok-clause-put : goal.returns-in-Ok-clause-put
 returns-in-Ok-clause-put g c = λ bytes before.
-    last_row-put c.args.self.now.channel.line _ _ bytes c.in-Some-Ok.row.edges before.sound (rw c.in-Some-Ok.field-0-is at (c.in-Some-Ok.ensures.whole bytes before.lines))
+    last_row-put c.args.self.now.channel.setup _ _ bytes c.in-Some-Ok.row.edges before.sound (rw c.in-Some-Ok.field-0-is at (c.in-Some-Ok.ensures.whole bytes before.lines))
     (c.in-Ok.ensures.grows (edges_of bytes) before.follows)
 
 pub returns-in-Err-clause-put : goal.returns-in-Err-clause-put
 returns-in-Err-clause-put g c = λ bytes before.
-    last_row-cut c.args.self.now.channel.line _ _ bytes c.in-Some-Ok.row.edges (rw c.in-Some-Ok.field-0-is at (c.in-Some-Ok.ensures.whole bytes before.lines))
+    last_row-cut c.args.self.now.channel.setup _ _ bytes c.in-Some-Ok.row.edges (rw c.in-Some-Ok.field-0-is at (c.in-Some-Ok.ensures.whole bytes before.lines))
     (c.in-Err.ensures.cut (edges_of bytes) before.follows)
 
 pub returns-in-Some-Err-clause-put : goal.returns-in-Some-Err-clause-put

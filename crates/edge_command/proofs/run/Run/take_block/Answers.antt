@@ -31,7 +31,7 @@ bytes-preserved-in-Some g c =
     let one = c.take_byte.ensures in
     less-left old mid c.take_byte.new.self _ (g.K.Sink.got c.bytes.out) _ _ (g.K.Sink.faults c.bytes.out) _ c.args.block.now (c.in-Some.byte.now ∷ []) c.in-Some.others.now
     (subst (λ (bs : List ℕ). BlockBefore old mid (g.K.Sink.got c.args.out.now) (g.K.Sink.got c.bytes.out) (g.K.Sink.faults c.args.out.now) (g.K.Sink.faults c.bytes.out) c.args.block.now bs) c.in-Some.ensures.cases.0 before)
-    (record { line = one.line; number = one.number; took = c.in_ok-take_byte.ensures.took; later = one.cause.later })
+    (record { setup = one.setup; number = one.number; took = c.in_ok-take_byte.ensures.took; later = one.cause.later })
 
 pub bytes-preserved : goal.bytes-preserved
 bytes-preserved g c =

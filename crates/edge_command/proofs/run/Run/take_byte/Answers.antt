@@ -10,6 +10,9 @@ put_row-requires-clause-in_range g c =
     let grows : answers_of later ≡ answers_of bytes ++ Ok c.in-Some-Ok.row.edges ∷ [] = rw c.in-Some-Ok.field-0-is at (c.in-Some-Ok.ensures.grows bytes c.requires.reads.1.lines) in
     row-in_range bytes later c.in-Some-Ok.row.edges grows
 
+pub put_row-requires-clause-follows : goal.put_row-requires-clause-follows
+put_row-requires-clause-follows g c = (edges_of c.requires.reads.0, c.requires.reads.1.follows)
+
 pub returns-in-None-clause-took : goal.returns-in-None-clause-took
 returns-in-None-clause-took g c = λ bytes before.
     none-took c.args.self.now c.feed.new.self _ bytes (bytes ++ c.args.byte ∷ []) before (c.in-None.ensures.stands bytes before.lines) (c.in-None.ensures.grows bytes before.lines)
@@ -23,10 +26,10 @@ returns-in-Ok-clause-took g c = λ bytes before.
 
 pub returns-in-Err-clause-stopped : goal.returns-in-Err-clause-stopped
 returns-in-Err-clause-stopped g c = λ bytes before.
-    row-cut c.args.self.now.channel.line _ _ bytes (bytes ++ c.args.byte ∷ []) c.in-Some-Ok.row.edges (rw c.in-Some-Ok.field-0-is at (c.in-Some-Ok.ensures.grows bytes before.lines))
+    row-cut c.args.self.now.channel.setup _ _ bytes (bytes ++ c.args.byte ∷ []) c.in-Some-Ok.row.edges (rw c.in-Some-Ok.field-0-is at (c.in-Some-Ok.ensures.grows bytes before.lines))
     (c.in-Err.ensures.cut (edges_of bytes) before.follows)
 
 pub returns-in-Some-Err-clause-stopped : goal.returns-in-Some-Err-clause-stopped
 returns-in-Some-Err-clause-stopped g c = λ bytes before.
     let later = bytes ++ c.args.byte ∷ [] in
-    fault-stops c.args.self.now.channel.line _ bytes later c.line_number.result c.in-Some-Err.fault before.sound (rw c.in-Some-Err.field-0-is at (c.in-Some-Err.ensures.grows bytes before.lines)) (c.line_number.ensures.number later (c.in-Some-Err.ensures.stands bytes before.lines))
+    fault-stops c.args.self.now.channel.setup _ bytes later c.line_number.result c.in-Some-Err.fault before.sound (rw c.in-Some-Err.field-0-is at (c.in-Some-Err.ensures.grows bytes before.lines)) (c.line_number.ensures.number later (c.in-Some-Err.ensures.stands bytes before.lines))
