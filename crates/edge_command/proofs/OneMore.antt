@@ -1,9 +1,10 @@
 -- What one edge more, or the end, adds to a channel's reports and text.
-use Rattle.std.proofs.Common.{◌≡◌, ℕ, ◌+◌, ◌==◌, ◌<◌, ◌^◌, ◌≤◌, List, [], ◌∷◌, ◌++◌, true, length, filter, flat_map, map, refl, ap, sym, subst, ◌∙◌, arith, append-nil, length-append, Option, eqb-true}
+use Rattle.std.proofs.Common.{◌≡◌, ℕ, ◌+◌, ◌==◌, ◌<◌, ◌^◌, ◌≤◌, List, [], ◌∷◌, ◌++◌, true, length, filter, flat_map, map, refl, ap, sym, subst, ◌∙◌, arith, append-nil, length-append, Option, eqb-true, eq-eqb}
 use Rattle.std.proofs.lemmas.List.Elements.{filter-append}
 use Rattle.std.proofs.lemmas.Grind.{flat_map-append}
 use Rattle.std.proofs.lemmas.List.{map-append}
 use Rattle.line_base.specs.declared.edge.Edge.{Edge}
+use Rattle.line_base.specs.declared.edge.Item.{Item}
 use Rattle.line_base.specs.declared.edge.Item.TheVariants as item
 use Rattle.receiver_core.specs.declared.report.Report.{Report}
 use Rattle.receiver_core.specs.declared.receiver.Receiver.{Receiver}
@@ -47,6 +48,17 @@ pub record Given (setup : ChannelSetup) (after : Receiver) (edges : List Edge) (
   pub same : (e.line == line_of setup) ≡ true
   pub stands : StandsFor setup after (items_on setup edges ++ item.Edge e ∷ [])
   pub grows : so_far setup (items_on setup edges ++ item.Edge e ∷ []) ≡ so_far setup (items_on setup edges) ++ reports
+
+-- what the receiver of a decoder gave
+pub given-of : (d : Decoder) (after : Receiver) (edges : List Edge) (e : Edge) (reports : List Report) → Follows d edges → e.line ≡ line_of d.setup
+    → ((setup : ChannelSetup) (seen : List Item) → StandsFor setup d.receiver seen → StandsFor setup after (seen ++ item.Edge e ∷ []))
+    → ((setup : ChannelSetup) (seen : List Item) → StandsFor setup d.receiver seen → so_far setup (seen ++ item.Edge e ∷ []) ≡ so_far setup seen ++ reports)
+    → Given d.setup after edges e reports
+given-of d after edges e reports before on_line stands grows = record {
+  same = eq-eqb _ _ on_line;
+  stands = stands d.setup (items_on d.setup edges) before.reads;
+  grows = grows d.setup (items_on d.setup edges) before.reads;
+}
 
 -- the reports of the channel grow by them
 pub reports-more : (setup : ChannelSetup) (after : Receiver) (edges : List Edge) (e : Edge) (reports : List Report) → Given setup after edges e reports

@@ -111,9 +111,11 @@ ended-whole : (setup : ChannelSetup) (why : Reason) (bytes : List ℕ) (got mid 
 unfolding Ended
 ended-whole setup reason.Clean bytes got mid got' none written (sound, unmarked, grows) = (refl, sound, unmarked, written-behind setup got mid got' bytes (whole_text setup (whole_edges_of bytes)) written grows)
 ended-whole setup reason.Marked bytes got mid got' none written (sound, marked, grows) = (refl, sound, marked, written-behind setup got mid got' bytes (whole_text setup (whole_edges_of bytes)) written grows)
-ended-whole setup (reason.Input number fault) bytes got mid got' none written (found, nothing) =
-    (found, subst (λ (t : List ℕ). Appends got got' t) (append-nil (text_so_far setup (edges_of bytes))) (appends-twice got mid got' (text_so_far setup (edges_of bytes)) [] written nothing),
-    read_whole setup bytes [] got mid got' none written nothing)
+ended-whole setup (reason.Input number fault) bytes got mid got' none written (found, nothing) = (
+  found,
+  subst (λ (t : List ℕ). Appends got got' t) (append-nil (text_so_far setup (edges_of bytes))) (appends-twice got mid got' (text_so_far setup (edges_of bytes)) [] written nothing),
+  read_whole setup bytes [] got mid got' none written nothing,
+)
 ended-whole setup (reason.WriteFault None) bytes got mid got' none written cut =
     (cut-behind_written setup got mid got' bytes (text_of setup bytes) written cut, read_whole setup bytes cut.appended.front got mid got' none written cut.appended.appended)
 ended-whole setup (reason.WriteFault (Some lane)) bytes got mid got' none written never = never
@@ -143,10 +145,11 @@ stopped-ended setup (reason.Input number fault) earlier block rest got mid got' 
 )
 stopped-ended setup (reason.WriteFault None) earlier block rest got mid got' small sound written cut =
     let bytes = earlier ++ block in
-    let edges = whole_edges-front bytes rest in
-    (front-longer got got' (text_so_far setup (edges_of bytes)) (text_of setup (bytes ++ rest)) (cut-behind_written setup got mid got' earlier (text_so_far setup (edges_of bytes)) written cut)
-    (input-front setup (bytes ++ rest) (edges_of bytes) edges.rest edges.is),
-    read_to setup earlier block rest cut.appended.front got mid got' small sound written cut.appended.appended)
+    let edges = whole_edges-front bytes rest in (
+      front-longer got got' (text_so_far setup (edges_of bytes)) (text_of setup (bytes ++ rest)) (cut-behind_written setup got mid got' earlier (text_so_far setup (edges_of bytes)) written cut)
+          (input-front setup (bytes ++ rest) (edges_of bytes) edges.rest edges.is),
+      read_to setup earlier block rest cut.appended.front got mid got' small sound written cut.appended.appended,
+    )
 stopped-ended setup (reason.WriteFault (Some lane)) earlier block rest got mid got' small sound written never = never
 stopped-ended setup (reason.Words place fault) earlier block rest got mid got' small sound written never = never
 stopped-ended setup reason.Clean earlier block rest got mid got' small sound written never = absurd never

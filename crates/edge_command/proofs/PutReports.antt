@@ -9,7 +9,8 @@ use Rattle.receiver_core.specs.declared.report.What.TheVariants as what
 use Rattle.receiver_core.specs.declared.tally.Tally.{Tally}
 use Rattle.receiver_core.specs.Tallies.{counted_with, tally_of, TellNoGap}
 use Rattle.edge_command.specs.Texts.{report_line}
-use Rattle.edge_command.specs.Channels.{lines_of, counted_in, PutSoFar}
+use Rattle.edge_command.specs.Channels.{lines_of}
+use Rattle.edge_command.specs.Puts.{counted_in, PutSoFar}
 use Rattle.edge_command.proofs.Growths.{appends-nothing, appends-twice}
 
 -- the lines of reports and one more

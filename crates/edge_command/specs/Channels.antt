@@ -1,6 +1,5 @@
 -- The one channel of the command: its items, the reports on them, and what is written of them; this project's own.
-use Rattle.std.specs.Io.KnownBytes.{Appends}
-use Rattle.std.specs.Prelude.{◌≡◌, ◌≤◌, length, Option, ℕ, ◌+◌, ◌==◌, ◌||◌, nat_lt, Bool, is_some, List, ◌++◌, filter, flat_map, map, if◌then◌else◌}
+use Rattle.std.specs.Prelude.{ℕ, ◌==◌, ◌||◌, nat_lt, Bool, is_some, List, ◌++◌, filter, flat_map, map, if◌then◌else◌}
 use Rattle.line_base.specs.declared.edge.Edge.{Edge}
 use Rattle.line_base.specs.declared.edge.Item.{Item}
 use Rattle.line_base.specs.declared.edge.Item.TheVariants as item
@@ -10,7 +9,7 @@ use Rattle.receiver_core.specs.declared.setup.ChannelSetup.{ChannelSetup}
 use Rattle.receiver_core.specs.declared.tally.Tally.{Tally}
 use Rattle.receiver_core.specs.Setups.{line_of}
 use Rattle.receiver_core.specs.Channels.{so_far, final}
-use Rattle.receiver_core.specs.Tallies.{tally_of, TellNoGap}
+use Rattle.receiver_core.specs.Tallies.{tally_of}
 use Rattle.edge_command.specs.Texts.{report_line, total_line}
 
 -- the edges of one line, in order
@@ -52,18 +51,3 @@ has_marks tally = nat_lt 0 tally.bad || nat_lt 0 tally.gaps
 -- a report tells of something bad, or of a gap
 unfoldable pub is_marked : ChannelSetup → List Edge → Bool
 is_marked setup edges = has_marks (tally_of (final_on setup edges))
-
--- how many reports a tally has counted: each as one of good, bad, a message or a gap, or not at all
-abbrev pub counted_in : Tally → ℕ
-counted_in tally = tally.good + tally.bad + tally.messages + tally.gaps
-
--- these reports of a list were counted and their lines were written, and the others are left
-pub record PutSoFar (old new : Tally) (got got' : Option (List ℕ)) (faults faults' : ℕ) (reports rest : List Report) : Type 0 where
-  pub put : List Report
-  pub parts : put ++ rest ≡ reports
-  pub few : counted_in new ≤ counted_in old + length put
-  pub none_lost : new.lost ≡ 0
-  pub counted : (before : List Report) → old ≡ tally_of before → new ≡ tally_of (before ++ put)
-  pub written : Appends got got' (lines_of put)
-  pub later : faults ≤ faults'
-  pub no_gap : TellNoGap rest

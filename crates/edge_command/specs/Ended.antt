@@ -24,10 +24,10 @@ pub record HasReadTo (setup : ChannelSetup) (bytes : List ℕ) (left' got got' :
 
 -- how `decode` of a channel of this setup ends on these bytes, by its reason: what is left of them, and what the output has grown by
 unfoldable pub Ended : ChannelSetup → Reason → List ℕ → Option (List ℕ) → Option (List ℕ) → Option (List ℕ) → Type 0
--- all was read, the edge list has no fault, no rule was violated, and the whole text was written
+-- all was read, the edge list has no fault, nothing bad was reported, and the whole text was written
 Ended setup reason.Clean bytes left' got got' =
     (left' ≡ Some []) × (whole_fault_of bytes ≡ None) × (is_marked setup (whole_edges_of bytes) ≡ false) × Appends got got' (whole_text setup (whole_edges_of bytes))
--- the same, and a rule was violated
+-- the same, and something bad was reported
 Ended setup reason.Marked bytes left' got got' =
     (left' ≡ Some []) × (whole_fault_of bytes ≡ None) × (is_marked setup (whole_edges_of bytes) ≡ true) × Appends got got' (whole_text setup (whole_edges_of bytes))
 -- the edge list has this fault at this line, the text of the lines before it was written, and the source was read no further than the pull in which the fault became certain

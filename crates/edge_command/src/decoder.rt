@@ -6,7 +6,8 @@ ghost use Rattle.std.specs.Io.KnownBytes.{Appends};
 ghost use Rattle.receiver_core.specs.declared.report.Report.{Report};
 ghost use Rattle.receiver_core.specs.Tallies.{tally_of, TellNoGap};
 ghost use Rattle.edge_command.specs.Texts.{report_line};
-ghost use Rattle.edge_command.specs.Channels.{lines_of, counted_in};
+ghost use Rattle.edge_command.specs.Channels.{lines_of};
+ghost use Rattle.edge_command.specs.Puts.{counted_in};
 
 use crate::report::{LINE_ROOM, TOTAL_ROOM, write_report, write_total};
 use arrayvec::{ArrayString, ArrayVec};
@@ -44,11 +45,7 @@ fn put_report<K: Sink>(report: &Report, out: &mut K) -> Result<(), Failed>
 }
 
 /// Counts reports that tell of no gap, and puts their lines.
-fn put_reports<K: Sink>(
-    reports: &[Report],
-    tally: &mut Tally,
-    out: &mut K,
-) -> Result<(), Failed>
+fn put_reports<K: Sink>(reports: &[Report], tally: &mut Tally, out: &mut K) -> Result<(), Failed>
     requires room { counted_in tally.old + length reports.now < 2 ^ 64 }
     requires no_gap { TellNoGap reports.now }
     requires none_lost { tally.old.lost ≡ 0 }

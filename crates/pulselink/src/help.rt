@@ -33,8 +33,8 @@ EDGES is an edge list on standard input, at most 512 bytes a line:
 Lines end by LF or CRLF. Empty lines and lines that begin with # are skipped.
 
 statuses
-  0   all was read and written, and no rule was violated
-  1   all was read and written, and a rule was violated
+  0   all was read and written, no rule was violated and no counter jumped
+  1   all was read and written, and a rule was violated or a counter jumped
   2   the words are faulty               word K: FAULT
   3   a line of the input is faulty      input line N: FAULT
   4   reading failed                     read fault

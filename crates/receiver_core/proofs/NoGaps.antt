@@ -61,9 +61,12 @@ serial-none place (step ∷ steps) = tell-append (serial_report place step) (fla
 
 step-none : (layout : Layout) (form : Serial) (before : Option ℕ) (statuses : List ℕ) (step : SentStep) → TellNoGap (step_reports layout form before statuses step)
 step-none layout form before statuses Nothing = tt
-step-none layout form before statuses (Good place frame) =
-    (refl, refl, tell-append (value_reports place before (fast_of layout frame.nibbles)) (serial_reports form place statuses frame.status)
-    (value-none place before (fast_of layout frame.nibbles)) (serial-none place (serial_steps form statuses frame.status)))
+step-none layout form before statuses (Good place frame) = (
+  refl,
+  refl,
+  tell-append (value_reports place before (fast_of layout frame.nibbles)) (serial_reports form place statuses frame.status)
+      (value-none place before (fast_of layout frame.nibbles)) (serial-none place (serial_steps form statuses frame.status)),
+)
 step-none layout form before statuses (Bad place rule) = (refl, refl, tt)
 
 sent-none : (layout : Layout) (form : Serial) (before : Option ℕ) (statuses : List ℕ) (steps : List SentStep) → TellNoGap (sent_reports layout form before statuses steps)

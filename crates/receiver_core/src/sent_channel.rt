@@ -102,12 +102,7 @@ fn push_serial(place: u64, step: SerialStep, reports: &mut ArrayVec<Report, 8>)
 }
 
 /// Takes the status, 0 to 15, of a frame that ends at this place, and adds the report of what it ends.
-fn push_status(
-    serial: &mut SerialReader,
-    place: u64,
-    status: u8,
-    reports: &mut ArrayVec<Report, 8>,
-)
+fn push_status(serial: &mut SerialReader, place: u64, status: u8, reports: &mut ArrayVec<Report, 8>)
     requires status { status < 16 }
     requires room { array_vec_len reports.old ≤ 7 }
     ensures stands { (form : Serial) (statuses : List ℕ) → SerialStandsFor form serial.old statuses → SerialStandsFor form serial.new (statuses ++ status ∷ []) }

@@ -275,6 +275,7 @@ const SHORT_MESSAGE: [u8; 16] = [8, 4, 0, 4, 4, 0, 4, 0, 0, 0, 4, 4, 4, 4, 0, 0]
 
 /// The last pulse, in ticks, of a frame of six zeros with a right CRC, and with a wrong one.
 const RIGHT: u8 = 17;
+
 const WRONG: u8 = 18;
 
 /// Reads short messages: a tick of 3,000 ns, a jitter of 300 ns, six nibbles, on line 0.
@@ -291,7 +292,12 @@ fn short(rt: &impl Abort) -> ChannelSetup
 }
 
 /// Adds the edges of a frame of this status, six zeros and a last pulse of so many ticks, after this time.
-fn add_frame(items: &mut Vec<Item>, time: &mut u64, status: u8, last: u8) -> Result<(), AllocError> {
+fn add_frame(
+    items: &mut Vec<Item>,
+    time: &mut u64,
+    status: u8,
+    last: u8,
+) -> Result<(), AllocError> {
     let status = status.saturating_add(12);
     for ticks in [56, status, 12, 12, 12, 12, 12, 12, last] {
         *time = time.saturating_add(3_000 * u64::from(ticks));

@@ -225,7 +225,9 @@ fn each_layout_has_its_line(rt: HostRuntime) -> Result<(), AllocError> {
         300_000, 468_000, 504_000, 543_000, 585_000, 630_000, 678_000, 729_000, 807_000, 852_000,
     ];
     // The nibbles 1 2 3, whose CRC is 0.
-    let three: [u64; 7] = [300_000, 468_000, 504_000, 543_000, 585_000, 630_000, 666_000];
+    let three: [u64; 7] = [
+        300_000, 468_000, 504_000, 543_000, 585_000, 630_000, 666_000,
+    ];
     // The frame of six nibbles twice, without a counter between that follows.
     let twice: [u64; 19] = [
         300_000, 468_000, 504_000, 543_000, 585_000, 630_000, 678_000, 729_000, 807_000, 852_000,

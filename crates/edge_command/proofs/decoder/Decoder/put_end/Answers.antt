@@ -31,7 +31,7 @@ returns-clause-grows g c =
     on-ok c.put_given.result c.put_given.ensures.written (λ written edges before. record {
       more = lines_of c.push_into.new.reports.items;
       is = final-text old.setup edges c.push_into.new.reports.items
-      (final-more old.setup edges c.push_into.new.reports.items (c.push_into.ensures.grows old.setup (items_on old.setup edges) before.reads));
+          (final-more old.setup edges c.push_into.new.reports.items (c.push_into.ensures.grows old.setup (items_on old.setup edges) before.reads));
       appended = written;
     })
 
@@ -41,6 +41,6 @@ returns-clause-cut g c =
     on-err c.put_given.result c.put_given.ensures.cut (λ cut edges before. record {
       more = lines_of c.push_into.new.reports.items;
       is = final-text old.setup edges c.push_into.new.reports.items
-      (final-more old.setup edges c.push_into.new.reports.items (c.push_into.ensures.grows old.setup (items_on old.setup edges) before.reads));
+          (final-more old.setup edges c.push_into.new.reports.items (c.push_into.ensures.grows old.setup (items_on old.setup edges) before.reads));
       appended = cut;
     })
