@@ -5,6 +5,8 @@ ghost use Rattle.receiver_core.specs.Channels.{edges_counted};
 ghost use Rattle.receiver_core.specs.Readers.{IsTakeable};
 ghost use Rattle.receiver_core.specs.Tallies.{lost_in};
 
+mod messages;
+
 use super::*;
 use line_base::{Edge, Item, Nibbles, Rule, SetupFault};
 use sent_fast::{Fast, Layout};
@@ -266,128 +268,6 @@ fn an_end_tells_nothing_and_nothing_is_told_after_it(rt: HostRuntime) -> Result<
         let found = reports(rt.alloc(), secure(&rt), &list)?;
         let expected = [frame(&rt, 19, [1, 2, 3, 4, 5, 14]), value(19)];
         assert_eq!(rt; found.as_slice(), expected.as_slice(), "{end:?}");
-    }
-    Ok(())
-}
-
-/// The statuses of a short message of the ID 5 and the value A3.
-const SHORT_MESSAGE: [u8; 16] = [8, 4, 0, 4, 4, 0, 4, 0, 0, 0, 4, 4, 4, 4, 0, 0];
-
-/// The last pulse, in ticks, of a frame of six zeros with a right CRC, and with a wrong one.
-const RIGHT: u8 = 17;
-
-const WRONG: u8 = 18;
-
-/// Reads short messages: a tick of 3,000 ns, a jitter of 300 ns, six nibbles, on line 0.
-fn short(rt: &impl Abort) -> ChannelSetup
-    ensures { setup_fault_of result ≡ None }
-{
-    let setup = SentSetup::new(3_000, 300, 6, false, CrcForm::New).expect(rt, "in range");
-    ChannelSetup::Sent {
-        line: 0,
-        setup,
-        layout: Layout::Raw,
-        serial: Serial::Short,
-    }
-}
-
-/// Adds the edges of a frame of this status, six zeros and a last pulse of so many ticks, after this time.
-fn add_frame(
-    items: &mut Vec<Item>,
-    time: &mut u64,
-    status: u8,
-    last: u8,
-) -> Result<(), AllocError> {
-    let status = status.saturating_add(12);
-    for ticks in [56, status, 12, 12, 12, 12, 12, 12, last] {
-        *time = time.saturating_add(3_000 * u64::from(ticks));
-        add_fall(items, *time)?;
-    }
-    Ok(())
-}
-
-/// Adds a fall at this time, and a rise 15,000 ns later.
-fn add_fall(items: &mut Vec<Item>, time: u64) -> Result<(), AllocError> {
-    items.push(Item::Edge(Edge {
-        line: 0,
-        time,
-        level: false,
-    }))?;
-    items.push(Item::Edge(Edge {
-        line: 0,
-        time: time.saturating_add(15_000),
-        level: true,
-    }))?;
-    Ok(())
-}
-
-/// The opening and the first fall, at 300,000 ns.
-fn begun(alloc: Global) -> Result<Vec<Item>, AllocError> {
-    let mut items = Vec::new(alloc);
-    items.push(Item::Edge(Edge {
-        line: 0,
-        time: 0,
-        level: true,
-    }))?;
-    add_fall(&mut items, 300_000)?;
-    Ok(items)
-}
-
-#[test]
-fn a_serial_message_is_told_after_its_last_frame(rt: HostRuntime) -> Result<(), Fail> {
-    let mut list = begun(rt.alloc())?;
-    let mut time = 300_000;
-    for status in SHORT_MESSAGE {
-        add_frame(&mut list, &mut time, status, RIGHT)?;
-    }
-    let found = reports(rt.alloc(), short(&rt), &list)?;
-    let message = Report {
-        place: 289,
-        what: What::Short { id: 5, value: 0xA3 },
-    };
-    assert_eq!(rt; found.len(), 17);
-    assert_eq!(rt; found.get(15), Some(&frame(&rt, 289, [0; 6])));
-    assert_eq!(rt; found.get(16), Some(&message));
-    Ok(())
-}
-
-#[test]
-fn a_message_is_gone_after_a_bad_frame_at_any_of_its_frames(rt: HostRuntime) -> Result<(), Fail> {
-    for cut in 1..16usize {
-        let mut list = begun(rt.alloc())?;
-        let mut time = 300_000;
-        for (i, status) in SHORT_MESSAGE.iter().enumerate() {
-            if i == cut {
-                add_frame(&mut list, &mut time, 0, WRONG)?;
-            }
-            add_frame(&mut list, &mut time, *status, RIGHT)?;
-        }
-        let found = reports(rt.alloc(), short(&rt), &list)?;
-        // Sixteen frames and the bad one.
-        assert_eq!(rt; found.len(), 17, "{cut}");
-        assert_eq!(rt; found.get(16), Some(&frame(&rt, 307, [0; 6])), "{cut}");
-    }
-    Ok(())
-}
-
-#[test]
-fn a_message_is_gone_after_a_gap_at_any_of_its_frames(rt: HostRuntime) -> Result<(), Fail> {
-    for cut in 1..16usize {
-        let mut list = begun(rt.alloc())?;
-        let mut time = 300_000;
-        for (i, status) in SHORT_MESSAGE.iter().enumerate() {
-            if i == cut {
-                let first = list.len() as u64;
-                list.push(Item::Gap { first, count: 1 })?;
-                // The fall that ends its calibration pulse is an opening, so this frame isn't read.
-                add_frame(&mut list, &mut time, 0, RIGHT)?;
-            }
-            add_frame(&mut list, &mut time, *status, RIGHT)?;
-        }
-        let found = reports(rt.alloc(), short(&rt), &list)?;
-        // Sixteen frames and the gap.
-        assert_eq!(rt; found.len(), 17, "{cut}");
-        assert_eq!(rt; found.get(16), Some(&frame(&rt, 308, [0; 6])), "{cut}");
     }
     Ok(())
 }

@@ -19,30 +19,28 @@ const ENHANCED_SAYS: SerialStep = SerialStep::Enhanced {
     wide: true,
 };
 
-/// What a reader answers to these statuses one after another, each step with the number of its frame.
-fn short_steps(
-    alloc: Global,
-    reader: &mut ShortReader,
-    pieces: &[&[u8]],
-) -> Result<Vec<(u32, SerialStep)>, AllocError> {
-    let mut steps = Vec::new(alloc);
-    let mut frame: u32 = 0;
-    for piece in pieces {
-        for status in *piece {
-            frame = frame.saturating_add(1);
-            let step = reader.push(*status % 16);
-            if step != SerialStep::Nothing {
-                steps.push((frame, step))?;
-            }
-        }
-    }
-    Ok(steps)
+/// A reader of either form.
+trait Reads {
+    /// Takes the next status, and answers what it ends.
+    fn read(&mut self, status: u8) -> SerialStep;
 }
 
-/// The same of a reader of enhanced messages.
-fn enhanced_steps(
+impl Reads for ShortReader {
+    fn read(&mut self, status: u8) -> SerialStep {
+        self.push(status % 16)
+    }
+}
+
+impl Reads for EnhancedReader {
+    fn read(&mut self, status: u8) -> SerialStep {
+        self.push(status % 16)
+    }
+}
+
+/// What a reader answers to these statuses one after another, each step with the number of its frame.
+fn steps<R: Reads>(
     alloc: Global,
-    reader: &mut EnhancedReader,
+    reader: &mut R,
     pieces: &[&[u8]],
 ) -> Result<Vec<(u32, SerialStep)>, AllocError> {
     let mut steps = Vec::new(alloc);
@@ -50,7 +48,7 @@ fn enhanced_steps(
     for piece in pieces {
         for status in *piece {
             frame = frame.saturating_add(1);
-            let step = reader.push(*status % 16);
+            let step = reader.read(*status);
             if step != SerialStep::Nothing {
                 steps.push((frame, step))?;
             }
@@ -61,14 +59,14 @@ fn enhanced_steps(
 
 #[test]
 fn a_short_message_is_told_at_its_sixteenth_frame(rt: HostRuntime) -> Result<(), Fail> {
-    let found = short_steps(rt.alloc(), &mut ShortReader::new(), &[&[0, 4], &SHORT])?;
+    let found = steps(rt.alloc(), &mut ShortReader::new(), &[&[0, 4], &SHORT])?;
     assert_eq!(rt; found.as_slice(), [(18, SHORT_SAYS)].as_slice());
     Ok(())
 }
 
 #[test]
 fn a_start_bit_within_a_short_message_begins_another(rt: HostRuntime) -> Result<(), Fail> {
-    let found = short_steps(rt.alloc(), &mut ShortReader::new(), &[&SHORT[..8], &SHORT])?;
+    let found = steps(rt.alloc(), &mut ShortReader::new(), &[&SHORT[..8], &SHORT])?;
     let expected = [(9, SerialStep::Bad(Rule::Restart)), (24, SHORT_SAYS)];
     assert_eq!(rt; found.as_slice(), expected.as_slice());
     Ok(())
@@ -85,7 +83,7 @@ fn an_enhanced_message_is_told_at_its_eighteenth_frame(rt: HostRuntime) -> Resul
         (&[8, 8, 8, 8, 8, 8, 8], 25),
     ];
     for (before, frame) in cases {
-        let found = enhanced_steps(rt.alloc(), &mut EnhancedReader::new(), &[before, &ENHANCED])?;
+        let found = steps(rt.alloc(), &mut EnhancedReader::new(), &[before, &ENHANCED])?;
         assert_eq!(rt;
             found.as_slice(),
             [(frame, ENHANCED_SAYS)].as_slice(),
@@ -102,7 +100,7 @@ fn a_set_start_bit_in_frame_13_or_18_begins_the_search_anew(rt: HostRuntime) -> 
         (&ENHANCED[..17], 18, Rule::Zero18, 35),
     ];
     for (before, place, rule, frame) in cases {
-        let found = enhanced_steps(rt.alloc(), &mut EnhancedReader::new(), &[before, &ENHANCED])?;
+        let found = steps(rt.alloc(), &mut EnhancedReader::new(), &[before, &ENHANCED])?;
         let expected = [(place, SerialStep::Bad(rule)), (frame, ENHANCED_SAYS)];
         assert_eq!(rt; found.as_slice(), expected.as_slice(), "{rule:?}");
     }
@@ -111,13 +109,13 @@ fn a_set_start_bit_in_frame_13_or_18_begins_the_search_anew(rt: HostRuntime) -> 
 
 #[test]
 fn a_wrong_crc_is_reported_at_the_last_frame(rt: HostRuntime) -> Result<(), Fail> {
-    let short = short_steps(rt.alloc(), &mut ShortReader::new(), &[&SHORT[..15], &[4]])?;
+    let short = steps(rt.alloc(), &mut ShortReader::new(), &[&SHORT[..15], &[4]])?;
     assert_eq!(rt;
         short.as_slice(),
         [(16, SerialStep::Bad(Rule::SerialCheck))].as_slice()
     );
     let pieces: [&[u8]; 2] = [&ENHANCED[..17], &[4]];
-    let enhanced = enhanced_steps(rt.alloc(), &mut EnhancedReader::new(), &pieces)?;
+    let enhanced = steps(rt.alloc(), &mut EnhancedReader::new(), &pieces)?;
     assert_eq!(rt;
         enhanced.as_slice(),
         [(18, SerialStep::Bad(Rule::SerialCheck))].as_slice()
@@ -134,7 +132,7 @@ fn the_encoders_give_the_worked_statuses(rt: HostRuntime) {
 #[test]
 fn a_message_with_a_value_of_12_bits_has_an_id_of_8(rt: HostRuntime) -> Result<(), Fail> {
     let statuses = enhanced_bits(0xA5, 0x9C3, false);
-    let found = enhanced_steps(rt.alloc(), &mut EnhancedReader::new(), &[&statuses])?;
+    let found = steps(rt.alloc(), &mut EnhancedReader::new(), &[&statuses])?;
     let says = SerialStep::Enhanced {
         id: 0xA5,
         value: 0x9C3,
@@ -147,14 +145,14 @@ fn a_message_with_a_value_of_12_bits_has_an_id_of_8(rt: HostRuntime) -> Result<(
 #[test]
 fn a_reset_forgets_what_is_not_whole(rt: HostRuntime) -> Result<(), Fail> {
     let mut short = ShortReader::new();
-    short_steps(rt.alloc(), &mut short, &[&SHORT[..8]])?;
+    steps(rt.alloc(), &mut short, &[&SHORT[..8]])?;
     short.reset();
-    let found = short_steps(rt.alloc(), &mut short, &[&SHORT[8..], &SHORT])?;
+    let found = steps(rt.alloc(), &mut short, &[&SHORT[8..], &SHORT])?;
     assert_eq!(rt; found.as_slice(), [(24, SHORT_SAYS)].as_slice());
     let mut enhanced = EnhancedReader::new();
-    enhanced_steps(rt.alloc(), &mut enhanced, &[&ENHANCED[..6]])?;
+    steps(rt.alloc(), &mut enhanced, &[&ENHANCED[..6]])?;
     enhanced.reset();
-    let found = enhanced_steps(rt.alloc(), &mut enhanced, &[&ENHANCED[6..], &ENHANCED])?;
+    let found = steps(rt.alloc(), &mut enhanced, &[&ENHANCED[6..], &ENHANCED])?;
     assert_eq!(rt; found.as_slice(), [(30, ENHANCED_SAYS)].as_slice());
     Ok(())
 }
