@@ -3,8 +3,8 @@ use Rattle.std.specs.Prelude.{ℕ, ◌+◌, ◌-◌, ◌*◌, ◌==◌, ◌&&◌
 use Rattle.std.specs.Str.{bytes_eq}
 use Rattle.std.specs.List.{slice_split, list_all}
 
--- what a function on a found value finds, and nothing where there is no value
 infixl 10 ◌>>=◌
+-- what a function on a found value finds, and nothing where there is no value
 abbrev pub ◌>>=◌ : {A B : Type 0} → Option A → (A → Option B) → Option B
 None >>= next = None
 (Some x) >>= next = next x

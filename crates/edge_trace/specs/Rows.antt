@@ -5,8 +5,8 @@ use Rattle.line_base.specs.declared.faults.LineFault.{LineFault}
 use Rattle.line_base.specs.declared.faults.LineFault.TheVariants.{Field, Number, Line, Level, TimeBack, TooLarge}
 use Rattle.edge_trace.specs.Fields.{fields, number_in, seconds_in, level_in, levels_in}
 
--- what a step on a good value gives, and the first fault where there is one
 infixl 10 ◌>>=◌
+-- what a step on a good value gives, and the first fault where there is one
 abbrev pub ◌>>=◌ : {A B : Type 0} → Result A LineFault → (A → Result B LineFault) → Result B LineFault
 (Ok x) >>= next = next x
 (Err fault) >>= next = Err fault

@@ -15,8 +15,8 @@ use Rattle.receiver_core.specs.Setups.{setup_fault_of}
 use Rattle.link_words.specs.declared.setting.Setting.{Setting}
 use Rattle.link_words.specs.Settings.{key_in, setting_in, has_key, line_in, tick_in, jitter_in, nibbles_in, pause_in, crc_in, layout_in, serial_in}
 
--- what a step on a good value gives, and the first fault where there is one
 infixl 10 ◌>>=◌
+-- what a step on a good value gives, and the first fault where there is one
 abbrev pub ◌>>=◌ : {A B : Type 0} → Result A WordFault → (A → Result B WordFault) → Result B WordFault
 (Ok x) >>= next = next x
 (Err fault) >>= next = Err fault

@@ -1,5 +1,6 @@
 pub mod Serials
 pub mod SentReports
+pub mod Meanings
 pub mod SentStretches
 pub mod OpenStretches
 pub mod Links

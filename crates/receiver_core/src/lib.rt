@@ -5,6 +5,7 @@
 //! it. Which report comes when, what a violated rule resets, and what is counted is this project's own.
 #![tactic(auto)]
 
+mod meaning;
 mod receiver;
 mod report;
 mod sent_channel;
@@ -14,6 +15,7 @@ mod tally;
 #[cfg(test)]
 mod tests;
 
+pub use meaning::frames_have_meaning;
 pub use receiver::Receiver;
 pub use report::{Report, What};
 pub use setup::{ChannelSetup, Serial};

@@ -10,3 +10,4 @@ pub mod SentMessages
 pub mod ShortSteps
 pub mod ShortLeads
 pub mod ShortMessages
+pub mod StepRules

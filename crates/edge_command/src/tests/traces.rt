@@ -218,46 +218,49 @@ fn values_are_told_in_the_layout_that_is_set(rt: HostRuntime) -> Result<(), Allo
     expect_each(&rt, rt.alloc(), &[secure, wrong_copy])
 }
 
+/// The falls of a frame of the status 0 and the nibbles 1 2 3 4 5 14, whose CRC is 3, in ns.
+const SIX: [u64; 10] = [
+    300_000, 468_000, 504_000, 543_000, 585_000, 630_000, 678_000, 729_000, 807_000, 852_000,
+];
+
+/// The falls of a frame of the status 0 and the nibbles 1 2 3, whose CRC is 0, in ns.
+const THREE: [u64; 7] = [
+    300_000, 468_000, 504_000, 543_000, 585_000, 630_000, 666_000,
+];
+
+/// The falls of the frame of six nibbles twice, in ns: its counter doesn't follow itself.
+const TWICE: [u64; 19] = [
+    300_000, 468_000, 504_000, 543_000, 585_000, 630_000, 678_000, 729_000, 807_000, 852_000,
+    1_020_000, 1_056_000, 1_095_000, 1_137_000, 1_182_000, 1_230_000, 1_281_000, 1_359_000,
+    1_404_000,
+];
+
 #[test]
 fn each_layout_has_its_line(rt: HostRuntime) -> Result<(), AllocError> {
-    // The nibbles 1 2 3 4 5 14 of the status 0, whose CRC is 3.
-    let six: [u64; 10] = [
-        300_000, 468_000, 504_000, 543_000, 585_000, 630_000, 678_000, 729_000, 807_000, 852_000,
-    ];
-    // The nibbles 1 2 3, whose CRC is 0.
-    let three: [u64; 7] = [
-        300_000, 468_000, 504_000, 543_000, 585_000, 630_000, 666_000,
-    ];
-    // The frame of six nibbles twice, without a counter between that follows.
-    let twice: [u64; 19] = [
-        300_000, 468_000, 504_000, 543_000, 585_000, 630_000, 678_000, 729_000, 807_000, 852_000,
-        1_020_000, 1_056_000, 1_095_000, 1_137_000, 1_182_000, 1_230_000, 1_281_000, 1_359_000,
-        1_404_000,
-    ];
     for (words, falls, ended, written) in [
         (
             "decode sent:line=0,layout=one12,nibbles=3",
-            three.as_slice(),
+            THREE.as_slice(),
             CLEAN,
             "00 13 frame 0 123\n00 13 one 123\n00 total good 1 bad 0 messages 0 gaps 0 lost 0\n",
         ),
         (
             "decode sent:line=0,layout=two12",
-            six.as_slice(),
+            SIX.as_slice(),
             CLEAN,
             "00 19 frame 0 12345E\n00 19 two 123 E54\n\
              00 total good 1 bad 0 messages 0 gaps 0 lost 0\n",
         ),
         (
             "decode sent:line=0,layout=split16_8",
-            six.as_slice(),
+            SIX.as_slice(),
             CLEAN,
             "00 19 frame 0 12345E\n00 19 split 1234 E5\n\
              00 total good 1 bad 0 messages 0 gaps 0 lost 0\n",
         ),
         (
             "decode sent:line=0,layout=secure12",
-            twice.as_slice(),
+            TWICE.as_slice(),
             MARKED,
             "00 19 frame 0 12345E\n00 19 secure 123 45\n00 37 frame 0 12345E\n\
              00 37 secure 123 45\n00 37 counter 45 45\n\
