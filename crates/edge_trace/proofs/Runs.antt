@@ -1,12 +1,12 @@
 -- What a run of bytes that end no line tells: nothing.
-use Rattle.std.proofs.Common.{◌≡◌, ℕ, suc, ◌+◌, ◌-◌, ◌<◌, ◌≤◌, cond, Bool, Option, Some, None, List, [], ◌∷◌, ◌++◌, length, take, map, get_or, refl, sym, ◌∙◌, ap, subst, arith, length-append}
-use Rattle.std.proofs.lemmas.Bool.{ne_eqb}
+use Rattle.std.proofs.Common.{◌≡◌, ℕ, suc, ◌+◌, ◌-◌, ◌<◌, ◌≤◌, cond, Bool, Option, Some, None, List, [], ◌∷◌, ◌++◌, length, take, map, get_or, refl, sym, ◌∙◌, ap, subst, arith, length-append, ◌⊎◌, inl, inr}
+use Rattle.std.proofs.lemmas.Bool.{ne_eqb, cases_lt}
 use Rattle.std.proofs.lemmas.List.{append_assoc, append-nil, length_push, get_or-take, length-take-le}
 use Rattle.edge_trace.specs.Lines.{ended_lines, open_line}
 use Rattle.edge_trace.specs.EdgeLists.{Standing}
 use Rattle.edge_trace.specs.Limits.{input_limit, last_line, told_of, fault_of, answers_of}
 use Rattle.edge_trace.specs.Readings.{IsAt}
-use Rattle.edge_trace.specs.Readers.{IsOpen, GoesOn, HasStopped, GoesOnOrStopped, StandsFor, HasEnded, TakesRun}
+use Rattle.edge_trace.specs.Readers.{IsOpen, GoesOn, HasStopped, GoesOnOrStopped, StandsFor, HasEnded, TakesRun, IsLongest}
 use Rattle.edge_trace.specs.declared.state.State.{State}
 use Rattle.edge_trace.specs.declared.reader.EdgeReader.{EdgeReader}
 use Rattle.edge_trace.proofs.Streams.{goes_on, open_goes_on, ended_push, open_push}
@@ -145,3 +145,47 @@ pub takes_front : (old new : EdgeReader) (seen block : List ℕ) (count : ℕ) �
 takes_front old new seen block count stands fits few none state_is levels_are line_is left_is room_is ended_is =
     let long : length (take count block) ≡ count = length-take-le count block fits in
     takes_run old new seen (take count block) stands (front_no_lf block count fits none) (omega arith) state_is levels_are line_is left_is room_is ended_is
+
+-- the line behind a run of a block's front is longer by the run
+going_line : (seen block : List ℕ) (count : ℕ) (standing : Standing) → IsOpen seen standing → count ≤ length block → ((k : ℕ) → k < count → get_or block k 0 ≡ 10 → ⊥) → length seen + count ≤ input_limit → length (open_line [] seen) + count ≤ 512
+    → length (open_line [] (seen ++ take count block)) ≡ length (open_line [] seen) + count
+going_line seen block count standing is_open fits none within short =
+    let long : length (take count block) ≡ count = length-take-le count block fits in
+    let behind = behind_run seen (take count block) standing is_open (front_no_lf block count fits none) (omega arith) (omega arith) in
+    let more = length-append (open_line [] seen) (take count block) in
+    let same = ap length behind.line in
+    omega arith
+
+filled : (old : EdgeReader) (now : State) (seen block : List ℕ) (count : ℕ) → GoesOn old now seen → count ≤ length block → ((k : ℕ) → k < count → get_or block k 0 ≡ 10 → ⊥) → count ≡ old.room - length old.line
+    → (512 ≤ length (open_line [] (seen ++ take count block))) ⊎ (input_limit ≤ length seen + count)
+filled old now seen block count going fits none full =
+    let long = ap length going.line_is in
+    let own_room = going.room_is in
+    let own_left = going.left_is in
+    let within = going.is_open.within in
+    let short = going.is_open.short in
+    elim (cases_lt old.left 512) [
+      | inl few ↦ inr (omega arith)
+      | inr much ↦ inl (let longer = going_line seen block count going.standing going.is_open fits none (omega arith) (omega arith) in omega arith)
+    ]
+
+longest_going : (old : EdgeReader) (now : State) (seen block : List ℕ) (count : ℕ) → GoesOn old now seen → count ≤ length block → ((k : ℕ) → k < count → get_or block k 0 ≡ 10 → ⊥)
+    → (get_or block count 0 ≡ 10) ⊎ (count ≡ old.room - length old.line) → IsLongest seen block count
+longest_going old now seen block count going fits none (inl ends) = inl ends
+longest_going old now seen block count going fits none (inr full) = inr (filled old now seen block count going fits none full)
+
+either_longest : (old : EdgeReader) (s : Option State) (seen block : List ℕ) (count : ℕ) → GoesOnOrStopped old s seen → fault_of seen ≡ None → count ≤ length block → ((k : ℕ) → k < count → get_or block k 0 ≡ 10 → ⊥)
+    → (get_or block count 0 ≡ 10) ⊎ (count ≡ old.room - length old.line) → IsLongest seen block count
+either_longest old None seen block count stopped sound fits none stops = (let found = stopped.is in absurd (cc))
+either_longest old (Some now) seen block count going sound fits none stops = longest_going old now seen block count going fits none stops
+
+-- the same room, told otherwise
+pub room_left : (byte count most room : ℕ) → (byte ≡ 10) ⊎ (count ≡ most) → most ≡ room → (byte ≡ 10) ⊎ (count ≡ room)
+room_left byte count most room (inl ends) same = inl ends
+room_left byte count most room (inr full) same = inr (full ∙ same)
+
+-- a run that stops at an LF, or for want of room, is as long as it may be
+pub longest_run : (old : EdgeReader) (seen block : List ℕ) (count : ℕ) → StandsFor old seen → fault_of seen ≡ None → count ≤ length block → ((k : ℕ) → k < count → get_or block k 0 ≡ 10 → ⊥)
+    → (get_or block count 0 ≡ 10) ⊎ (count ≡ old.room - length old.line) → IsLongest seen block count
+unfolding StandsFor
+longest_run old seen block count stands sound fits none stops = either_longest old old.state seen block count stands sound fits none stops

@@ -1,5 +1,5 @@
 -- What the reader of an edge list stands for: the bytes that it was fed; this project's own.
-use Rattle.std.specs.Prelude.{◌≡◌, ℕ, ◌+◌, ◌^◌, ◌<◌, ◌≤◌, min, Option, None, Some, Result, Ok, Err, List, [], ◌∷◌, ◌++◌, length, map}
+use Rattle.std.specs.Prelude.{◌≡◌, ℕ, ◌+◌, ◌^◌, ◌<◌, ◌≤◌, ◌⊎◌, min, slice_index, take, Option, None, Some, Result, Ok, Err, List, [], ◌∷◌, ◌++◌, length, map}
 use Rattle.line_base.specs.declared.edge.Edge.{Edge}
 use Rattle.line_base.specs.declared.faults.LineFault.{LineFault}
 use Rattle.edge_trace.specs.Lines.{ended_lines, open_line}
@@ -82,3 +82,8 @@ pub record Takes (reader : EdgeReader) (seen : List ℕ) (byte : ℕ) (result : 
 pub record TakesRun (reader : EdgeReader) (seen run : List ℕ) : Type 0 where
   pub stands : StandsFor reader (seen ++ run)
   pub quiet : answers_of (seen ++ run) ≡ answers_of seen
+
+-- a run of so many bytes of a block is as long as it may be: an LF stands behind it, or its line has 512 bytes, or the input has as many as may stand in lines
+abbrev pub IsLongest : List ℕ → List ℕ → ℕ → Type 0
+IsLongest seen block count =
+    (slice_index block count ≡ 10) ⊎ (512 ≤ length (open_line [] (seen ++ take count block))) ⊎ (input_limit ≤ length seen + count)

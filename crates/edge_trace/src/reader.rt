@@ -44,7 +44,7 @@ impl EdgeReader {
     ghost use Rattle.edge_trace.specs.EdgeLists.{Standing, content_read};
     ghost use Rattle.edge_trace.specs.Limits.{fault_of, answers_of, whole_answers_of, line_number_of, last_line};
     ghost use Rattle.edge_trace.specs.Readings.{IsAt};
-    ghost use Rattle.edge_trace.specs.Readers.{answers_in, StandsFor, GoesOn, HasEnded, Takes, EndsLine};
+    ghost use Rattle.edge_trace.specs.Readers.{answers_in, StandsFor, GoesOn, HasEnded, Takes, EndsLine, IsLongest};
 
     /// A reader of no bytes.
     pub fn new() -> EdgeReader
@@ -83,6 +83,7 @@ impl EdgeReader {
         ensures fits { result ≤ length block.now }
         ensures stands { (seen : List ℕ) → StandsFor self.old seen → StandsFor self.new (seen ++ take result block.now) }
         ensures quiet { (seen : List ℕ) → StandsFor self.old seen → answers_of (seen ++ take result block.now) ≡ answers_of seen }
+        ensures longest { (seen : List ℕ) → StandsFor self.old seen → fault_of seen ≡ None → result < length block.now → IsLongest seen block.now result }
         ensures ended { (number : ℕ) → HasEnded self.old number → (result ≡ 0) × HasEnded self.new number }
     {
         let room = self.room.saturating_sub(self.line.len());

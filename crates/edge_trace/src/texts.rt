@@ -1,5 +1,5 @@
 //! Parts of a text: what stands before and behind a byte, without blanks, without a CR.
-ghost use Rattle.std.specs.Prelude.{◌≡◌, ◌≢◌, ℕ, ◌<◌, ◌≤◌, length, slice_index, option_copied};
+ghost use Rattle.std.specs.Prelude.{◌≡◌, ◌≢◌, ℕ, ◌<◌, ◌≤◌, ◌⊎◌, length, slice_index, option_copied};
 ghost use Rattle.edge_trace.specs.Lines.{without_cr};
 ghost use Rattle.edge_trace.specs.Fields.{cut_at, without_blanks, after_front, before_end};
 
@@ -24,6 +24,7 @@ pub(crate) fn length_before(text: &[u8], mark: u8, most: usize) -> usize
     ensures fits { result ≤ length text.now }
     ensures few { result ≤ most }
     ensures none { (k : ℕ) → k < result → slice_index text.now k ≢ mark }
+    ensures stops { result < length text.now → (slice_index text.now result ≡ mark) ⊎ (result ≡ most) }
 {
     let front = &text[..most.min(text.len())];
     match memchr(mark, front) {
