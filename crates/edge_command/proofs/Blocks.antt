@@ -1,5 +1,5 @@
 -- Blocks that are taken, byte after byte.
-use Rattle.std.proofs.Common.{◌≡◌, ℕ, ◌+◌, ◌-◌, ◌*◌, ◌<◌, ◌^◌, List, [], ◌∷◌, ◌++◌, length, take, drop, Option, None, Some, refl, ap, sym, subst, ◌∙◌, append_assoc, append-nil, length-append, take-append-drop, arith, length-drop}
+use Rattle.std.proofs.Common.{◌≡◌, ◌≤◌, ℕ, ◌+◌, ◌-◌, ◌*◌, ◌<◌, ◌^◌, List, [], ◌∷◌, ◌++◌, length, take, drop, Option, None, Some, refl, ap, sym, subst, ◌∙◌, append_assoc, append-nil, length-append, take-append-drop, arith, length-drop}
 use Rattle.std.proofs.lemmas.List.{take_all}
 use Rattle.line_base.specs.Streams.{IsFrontOf}
 use Rattle.line_base.specs.declared.edge.Edge.{Edge}
@@ -14,9 +14,22 @@ use Rattle.edge_command.proofs.EdgeLists.{fault-stays, edges-stay, edges-front}
 use Rattle.edge_command.specs.declared.run.Run.{Run}
 use Rattle.edge_command.specs.Channels.{text_so_far}
 use Rattle.edge_command.specs.Writes.{GrowsAlong}
-use Rattle.edge_command.specs.Runs.{Reads, Stopped, TookBytes, BlockSoFar, BlockBefore}
+use Rattle.edge_command.specs.Runs.{Reads, Stopped, TookBytes}
 use Rattle.edge_command.proofs.Growths.{grows-twice, grows-cut, cut-longer, grows-nothing}
 use Rattle.edge_command.proofs.Fronts.{text-front}
+
+-- these bytes of a block were taken
+pub record BlockSoFar (old new : Run) (got got' : Option (List ℕ)) (faults faults' : ℕ) (taken : List ℕ) : Type 0 where
+  pub setup : new.channel.setup ≡ old.channel.setup
+  pub number : new.channel.number ≤ old.channel.number + 16 * length taken
+  pub took : (bytes : List ℕ) → Reads old bytes → TookBytes old new got got' bytes (bytes ++ taken)
+  pub later : faults ≤ faults'
+
+-- a front of a block was taken, and this is the rest of it
+pub record BlockBefore (old new : Run) (got got' : Option (List ℕ)) (faults faults' : ℕ) (block rest : List ℕ) : Type 0 where
+  pub taken : List ℕ
+  pub so_far : BlockSoFar old new got got' faults faults' taken
+  pub parts : taken ++ rest ≡ block
 
 -- the text of bytes is a front of that of more
 pub bytes-front : (setup : ChannelSetup) (bytes more : List ℕ) → IsFrontOf (text_so_far setup (edges_of bytes)) (text_so_far setup (edges_of (bytes ++ more)))

@@ -9,7 +9,8 @@ use Rattle.receiver_core.specs.declared.setup.ChannelSetup.{ChannelSetup}
 use Rattle.edge_command.proofs.EdgeLists.{whole-fault}
 use Rattle.edge_command.specs.Channels.{text_so_far}
 use Rattle.edge_command.specs.Writes.{GrowsAlong, GrowsTowards}
-use Rattle.edge_command.proofs.Growths.{grows-nothing, appends-nothing}
+use Rattle.std.proofs.KnownBytes.{Appends-nil}
+use Rattle.edge_command.proofs.Growths.{grows-nothing}
 use Rattle.edge_command.proofs.Answers.{whole-sound, whole_edges-more}
 use Rattle.edge_command.proofs.TakeBytes.{on_right}
 
@@ -46,7 +47,7 @@ last_row-cut setup a b bytes row grows cut =
 -- the last line is refused
 pub last_line-refused : (got : Option (List ℕ)) (bytes : List ℕ) (number : ℕ) (fault : LineFault) → fault_of bytes ≡ None → whole_answers_of bytes ≡ answers_of bytes ++ Err fault ∷ [] → number ≡ line_number_of bytes
     → (whole_fault_of bytes ≡ Some (number, fault)) × Appends got got []
-last_line-refused got bytes number fault sound grows at = (whole-fault bytes fault sound grows ∙ ap (λ (n : ℕ). Some (n, fault)) (sym at), appends-nothing got)
+last_line-refused got bytes number fault sound grows at = (whole-fault bytes fault sound grows ∙ ap (λ (n : ℕ). Some (n, fault)) (sym at), Appends-nil got)
 
 -- the times of the last line's row are at most 10^15 ns
 pub last_row-in_range : (bytes : List ℕ) (row : List Edge) → whole_answers_of bytes ≡ answers_of bytes ++ Ok row ∷ [] → All (λ edge. edge.time ≤ 10 ^ 15) row

@@ -18,7 +18,7 @@ use Rattle.edge_command.specs.declared.decoder.Decoder.{Decoder}
 use Rattle.edge_command.specs.Texts.{report_line}
 use Rattle.edge_command.specs.Decoders.{Follows}
 use Rattle.edge_command.specs.Writes.{GrowsAlong}
-use Rattle.edge_command.proofs.Growths.{appends-nothing}
+use Rattle.std.proofs.KnownBytes.{Appends-nil}
 use Rattle.edge_command.specs.Channels.{on_line, items_on, reports_on, final_on, lines_of, text_so_far}
 
 -- an edge of the line is one edge more of it
@@ -131,5 +131,5 @@ pub quiet-text : (setup : ChannelSetup) (after : Receiver) (edges : List Edge) (
 quiet-text setup after edges e reports got given none = record {
   more = [];
   is = text-more setup after edges e reports given ∙ ap (λ l. text_so_far setup edges ++ l) (no_lines reports none);
-  appended = appends-nothing got;
+  appended = Appends-nil got;
 }

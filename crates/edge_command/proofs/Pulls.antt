@@ -1,7 +1,7 @@
 -- Pulls, one after another, and how they end.
 use Rattle.std.proofs.Common.{◌≡◌, ℕ, List, [], ◌++◌, Option, None, Some, refl, ap, sym, subst, ◌∙◌, append_assoc, append-nil, arith, IfSome, ◌+◌, ◌*◌, ◌≤◌, length, length-append}
 use Rattle.std.specs.Io.KnownBytes.{Appends, Consumes, Keeps, IsAtEnd}
-use Rattle.std.proofs.KnownBytes.{Consumes-trans}
+use Rattle.std.proofs.KnownBytes.{Appends-nil, Appends-trans, Consumes-nil, Consumes-trans}
 use Rattle.line_base.specs.Streams.{IsFrontOf, AppendsFront}
 use Rattle.line_base.specs.declared.edge.Edge.{Edge}
 use Rattle.line_base.specs.declared.reason.Reason.{Reason}
@@ -19,9 +19,20 @@ use Rattle.edge_command.specs.Decoders.{Follows}
 use Rattle.edge_command.specs.Writes.{GrowsAlong, GrowsTowards}
 use Rattle.edge_command.specs.Runs.{Reads, Stopped, TookBytes}
 use Rattle.edge_command.specs.Totals.{Finished}
-use Rattle.edge_command.specs.Ended.{HasReadTo, Ended, PulledSoFar}
-use Rattle.edge_command.proofs.Growths.{appends-nothing, appends-twice}
+use Rattle.edge_command.specs.Ended.{HasReadTo, Ended}
 use Rattle.edge_command.proofs.Fronts.{input-front}
+
+-- how far a run has come after so many pulls that gave bytes
+pub record PulledSoFar (setup : ChannelSetup) (pulls : ℕ) (run : Run) (left left' got got' : Option (List ℕ)) (faults faults' puts puts' : ℕ) : Type 0 where
+  pub taken : List ℕ
+  pub setup_is : run.channel.setup ≡ setup
+  pub reads : Reads run taken
+  pub at_least : pulls ≤ length taken
+  pub number : run.channel.number ≤ 65536 * pulls
+  pub consumed : Consumes left left' taken
+  pub written : Appends got got' (text_so_far setup (edges_of taken))
+  pub source_later : faults ≤ faults'
+  pub sink_later : puts ≤ puts'
 
 -- a run that has taken no byte
 pub reads-nothing : (lines : EdgeReader) (channel : Decoder) → StandsFor lines [] → Follows channel [] → Reads (record { lines = lines; channel = channel }) []
@@ -30,10 +41,6 @@ reads-nothing lines channel stands follows = record { lines = stands; sound = fa
 empty_text : (setup : ChannelSetup) → text_so_far setup [] ≡ []
 unfolding text_so_far reports_on items_on on_line lines_of
 empty_text setup = ap lines_of (so_far-none setup)
-
-consumes-nothing : (known : Option (List ℕ)) → Consumes known known []
-consumes-nothing None = tt
-consumes-nothing (Some xs) = refl
 
 no_text : (setup : ChannelSetup) → text_so_far setup (edges_of []) ≡ []
 no_text setup = ap (text_so_far setup) edges-nil ∙ empty_text setup
@@ -46,8 +53,8 @@ pulled-nothing setup run left got faults puts same none reads = record {
   reads = reads;
   at_least = omega arith;
   number = omega arith;
-  consumed = consumes-nothing left;
-  written = subst (λ (text : List ℕ). Appends got got text) (sym (no_text setup)) (appends-nothing got);
+  consumed = Consumes-nil left;
+  written = subst (λ (text : List ℕ). Appends got got text) (sym (no_text setup)) (Appends-nil got);
   source_later = omega arith;
   sink_later = omega arith;
 }
@@ -55,7 +62,7 @@ pulled-nothing setup run left got faults puts same none reads = record {
 -- what a sink holds after a growth behind what was written
 written-behind : (setup : ChannelSetup) (got mid got' : Option (List ℕ)) (earlier : List ℕ) (text : List ℕ) → Appends got mid (text_so_far setup (edges_of earlier)) → GrowsAlong mid got' (text_so_far setup (edges_of earlier)) text → Appends got got' text
 written-behind setup got mid got' earlier text written grows =
-    subst (λ (t : List ℕ). Appends got got' t) (sym grows.is) (appends-twice got mid got' (text_so_far setup (edges_of earlier)) grows.more written grows.appended)
+    subst (λ (t : List ℕ). Appends got got' t) (sym grows.is) (Appends-trans got mid got' (text_so_far setup (edges_of earlier)) grows.more written grows.appended)
 
 cut-behind_written : (setup : ChannelSetup) (got mid got' : Option (List ℕ)) (earlier : List ℕ) (text : List ℕ) → Appends got mid (text_so_far setup (edges_of earlier)) → GrowsTowards mid got' (text_so_far setup (edges_of earlier)) text → AppendsFront got got' text
 cut-behind_written setup got mid got' earlier text written grows = record {
@@ -64,7 +71,7 @@ cut-behind_written setup got mid got' earlier text written grows = record {
     rest = grows.appended.is_front.rest;
     is = grows.is ∙ ap (λ l. text_so_far setup (edges_of earlier) ++ l) grows.appended.is_front.is ∙ sym (append_assoc (text_so_far setup (edges_of earlier)) grows.appended.front grows.appended.is_front.rest);
   };
-  appended = appends-twice got mid got' (text_so_far setup (edges_of earlier)) grows.appended.front written grows.appended.appended;
+  appended = Appends-trans got mid got' (text_so_far setup (edges_of earlier)) grows.appended.front written grows.appended.appended;
 }
 
 front-longer : (got got' : Option (List ℕ)) (text longer : List ℕ) → AppendsFront got got' text → IsFrontOf text longer → AppendsFront got got' longer
@@ -96,7 +103,7 @@ read_to setup earlier block rest more got mid got' small sound written appended 
   small = small;
   sound = sound;
   more = more;
-  written = appends-twice got mid got' (text_so_far setup (edges_of earlier)) more written appended;
+  written = Appends-trans got mid got' (text_so_far setup (edges_of earlier)) more written appended;
 }
 
 -- the same at the end of the input
@@ -113,7 +120,7 @@ ended-whole setup reason.Clean bytes got mid got' none written (sound, unmarked,
 ended-whole setup reason.Marked bytes got mid got' none written (sound, marked, grows) = (refl, sound, marked, written-behind setup got mid got' bytes (whole_text setup (whole_edges_of bytes)) written grows)
 ended-whole setup (reason.Input number fault) bytes got mid got' none written (found, nothing) = (
   found,
-  subst (λ (t : List ℕ). Appends got got' t) (append-nil (text_so_far setup (edges_of bytes))) (appends-twice got mid got' (text_so_far setup (edges_of bytes)) [] written nothing),
+  subst (λ (t : List ℕ). Appends got got' t) (append-nil (text_so_far setup (edges_of bytes))) (Appends-trans got mid got' (text_so_far setup (edges_of bytes)) [] written nothing),
   read_whole setup bytes [] got mid got' none written nothing,
 )
 ended-whole setup (reason.WriteFault None) bytes got mid got' none written cut =
@@ -188,4 +195,4 @@ pulled-more setup pulls run new left mid left' got mid' got' f f' f'' p p' p'' b
 pub no-memory : (setup : ChannelSetup) (left got : Option (List ℕ)) → IfSome left (λ bytes. Ended setup reason.OutOfMemory bytes left got got)
 unfolding Ended
 no-memory setup None got = tt
-no-memory setup (Some bytes) got = (refl, appends-nothing got)
+no-memory setup (Some bytes) got = (refl, Appends-nil got)

@@ -1,5 +1,5 @@
 -- Reports that are counted and whose lines are put, one after another.
-use Rattle.std.proofs.Common.{◌≡◌, ℕ, ◌+◌, ◌≤◌, List, [], ◌∷◌, ◌++◌, flat_map, Option, refl, ap, sym, ◌∙◌, arith, append_assoc, append-nil, length-append}
+use Rattle.std.proofs.Common.{◌≡◌, length, ℕ, ◌+◌, ◌≤◌, List, [], ◌∷◌, ◌++◌, flat_map, Option, refl, ap, sym, ◌∙◌, arith, append_assoc, append-nil, length-append}
 use Rattle.std.proofs.lemmas.Grind.{flat_map-append}
 use Rattle.std.specs.Io.KnownBytes.{Appends}
 use Rattle.line_base.specs.Streams.{AppendsFront}
@@ -9,9 +9,19 @@ use Rattle.receiver_core.specs.declared.report.What.TheVariants as what
 use Rattle.receiver_core.specs.declared.tally.Tally.{Tally}
 use Rattle.receiver_core.specs.Tallies.{counted_with, tally_of, TellNoGap}
 use Rattle.edge_command.specs.Texts.{report_line}
-use Rattle.edge_command.specs.Channels.{lines_of}
-use Rattle.edge_command.specs.Puts.{counted_in, PutSoFar}
-use Rattle.edge_command.proofs.Growths.{appends-nothing, appends-twice}
+use Rattle.edge_command.specs.Channels.{lines_of, counted_in}
+use Rattle.std.proofs.KnownBytes.{Appends-nil, Appends-trans}
+
+-- these reports of a list were counted and their lines were written, and the others are left
+pub record PutSoFar (old new : Tally) (got got' : Option (List ℕ)) (faults faults' : ℕ) (reports rest : List Report) : Type 0 where
+  pub put : List Report
+  pub parts : put ++ rest ≡ reports
+  pub few : counted_in new ≤ counted_in old + length put
+  pub none_lost : new.lost ≡ 0
+  pub counted : (before : List Report) → old ≡ tally_of before → new ≡ tally_of (before ++ put)
+  pub written : Appends got got' (lines_of put)
+  pub later : faults ≤ faults'
+  pub no_gap : TellNoGap rest
 
 -- the lines of reports and one more
 lines-more : (reports : List Report) (next : Report) → lines_of (reports ++ next ∷ []) ≡ lines_of reports ++ report_line 0 next
@@ -40,7 +50,7 @@ put-none tally got faults reports none tells = record {
   few = omega arith;
   none_lost = none;
   counted = λ before e. e ∙ ap tally_of (sym (append-nil before));
-  written = rw lines-none (appends-nothing got);
+  written = rw lines-none (Appends-nil got);
   later = omega arith;
   no_gap = tells;
 }
@@ -55,7 +65,7 @@ put-one old mid new a b c f h k reports others next s counted whole appended lat
   few = (let one = counted-one mid next.place next.what in let more = length-append s.put (next ∷ []) in let before = s.few in let is = ap counted_in counted in omega arith);
   none_lost = ap (λ (t : Tally). t.lost) counted ∙ (let gone = s.no_gap.0 in let none = s.none_lost in omega arith);
   counted = λ before e. whole (before ++ s.put) (s.counted before e) ∙ ap tally_of (append_assoc before s.put (next ∷ []));
-  written = rw (lines-more s.put next) (appends-twice a b c (lines_of s.put) (report_line 0 next) s.written appended);
+  written = rw (lines-more s.put next) (Appends-trans a b c (lines_of s.put) (report_line 0 next) s.written appended);
   later = (let before = s.later in omega (arith, later));
   no_gap = s.no_gap.2;
 }
@@ -77,7 +87,7 @@ put-cut old mid a b c f h reports others next s cut = record {
         ∙ ap (λ l. l ++ lines_of others) (sym (append_assoc (lines_of s.put) cut.front cut.is_front.rest))
         ∙ append_assoc (lines_of s.put ++ cut.front) cut.is_front.rest (lines_of others);
   };
-  appended = appends-twice a b c (lines_of s.put) cut.front s.written cut.appended;
+  appended = Appends-trans a b c (lines_of s.put) cut.front s.written cut.appended;
 }
 
 -- all are put

@@ -1,5 +1,5 @@
 -- The one channel of the command: its items, the reports on them, and what is written of them; this project's own.
-use Rattle.std.specs.Prelude.{ℕ, ◌==◌, ◌||◌, nat_lt, Bool, is_some, List, ◌++◌, filter, flat_map, map, if◌then◌else◌}
+use Rattle.std.specs.Prelude.{ℕ, ◌+◌, ◌==◌, ◌||◌, nat_lt, Bool, is_some, List, ◌++◌, filter, flat_map, map, if◌then◌else◌}
 use Rattle.line_base.specs.declared.edge.Edge.{Edge}
 use Rattle.line_base.specs.declared.edge.Item.{Item}
 use Rattle.line_base.specs.declared.edge.Item.TheVariants as item
@@ -51,3 +51,7 @@ has_marks tally = nat_lt 0 tally.bad || nat_lt 0 tally.gaps
 -- a report tells of something bad, or of a gap
 unfoldable pub is_marked : ChannelSetup → List Edge → Bool
 is_marked setup edges = has_marks (tally_of (final_on setup edges))
+
+-- how many reports a tally has counted: each as one of good, bad, a message or a gap, or not at all
+abbrev pub counted_in : Tally → ℕ
+counted_in tally = tally.good + tally.bad + tally.messages + tally.gaps

@@ -1,16 +1,14 @@
 -- How a run over a source's bytes ended; this project's own.
-use Rattle.std.specs.Prelude.{◌≡◌, ℕ, ◌*◌, ◌≤◌, true, false, List, [], ◌++◌, length, Option, None, Some}
-use Rattle.std.specs.Io.KnownBytes.{Appends, Consumes}
+use Rattle.std.specs.Prelude.{◌≡◌, ℕ, ◌≤◌, true, false, List, [], ◌++◌, length, Option, None, Some}
+use Rattle.std.specs.Io.KnownBytes.{Appends}
 use Rattle.line_base.specs.Streams.{AppendsFront}
 use Rattle.line_base.specs.declared.reason.Reason.{Reason}
 use Rattle.line_base.specs.declared.reason.Reason.TheVariants as reason
 use Rattle.edge_trace.specs.Limits.{edges_of, fault_of, whole_edges_of, whole_fault_of}
 use Rattle.receiver_core.specs.declared.setup.ChannelSetup.{ChannelSetup}
-use Rattle.edge_command.specs.declared.run.Run.{Run}
 use Rattle.edge_command.specs.Channels.{text_so_far, whole_text, text_of, is_marked}
-use Rattle.edge_command.specs.Runs.{Reads}
 
--- how far a run that stopped had read its source: by at most 4,096 bytes behind bytes without a fault, whose text was written before those were pulled
+-- how far a run that stopped had read its source: at most 4,096 bytes behind bytes that have no fault and whose text is a front of what was written
 pub record HasReadTo (setup : ChannelSetup) (bytes : List ℕ) (left' got got' : Option (List ℕ)) : Type 0 where
   pub taken : List ℕ
   pub block : List ℕ
@@ -30,27 +28,15 @@ Ended setup reason.Clean bytes left' got got' =
 -- the same, and something bad was reported
 Ended setup reason.Marked bytes left' got got' =
     (left' ≡ Some []) × (whole_fault_of bytes ≡ None) × (is_marked setup (whole_edges_of bytes) ≡ true) × Appends got got' (whole_text setup (whole_edges_of bytes))
--- the edge list has this fault at this line, the text of the lines before it was written, and the source was read no further than the pull in which the fault became certain
+-- the edge list has this fault at this line, the text of the lines before it was written, and at most 4,096 bytes behind bytes without a fault were read
 Ended setup (reason.Input number fault) bytes left' got got' = (whole_fault_of bytes ≡ Some (number, fault)) × Appends got got' (text_so_far setup (edges_of bytes)) × HasReadTo setup bytes left' got got'
 -- the bytes that were taken have no fault, and the text of their whole lines was written
 Ended setup reason.ReadFault bytes left' got got' =
     (taken : List ℕ) × (rest : List ℕ) × (bytes ≡ taken ++ rest) × (left' ≡ Some rest) × (fault_of taken ≡ None) × Appends got got' (text_so_far setup (edges_of taken))
--- a front of the text of the input was written, and the source was read no further than the pull whose lines were put
+-- a front of the text of the input was written, and at most 4,096 bytes were read behind bytes without a fault whose text is whole in it
 Ended setup (reason.WriteFault None) bytes left' got got' = AppendsFront got got' (text_of setup bytes) × HasReadTo setup bytes left' got got'
 -- nothing was read or written
 Ended setup reason.OutOfMemory bytes left' got got' = (left' ≡ Some bytes) × Appends got got' []
 -- no lane is written to, and the words were accepted
 Ended setup (reason.WriteFault (Some lane)) bytes left' got got' = ⊥
 Ended setup (reason.Words place fault) bytes left' got got' = ⊥
-
--- how far a run has come after so many pulls that gave bytes
-pub record PulledSoFar (setup : ChannelSetup) (pulls : ℕ) (run : Run) (left left' got got' : Option (List ℕ)) (faults faults' puts puts' : ℕ) : Type 0 where
-  pub taken : List ℕ
-  pub setup_is : run.channel.setup ≡ setup
-  pub reads : Reads run taken
-  pub at_least : pulls ≤ length taken
-  pub number : run.channel.number ≤ 65536 * pulls
-  pub consumed : Consumes left left' taken
-  pub written : Appends got got' (text_so_far setup (edges_of taken))
-  pub source_later : faults ≤ faults'
-  pub sink_later : puts ≤ puts'

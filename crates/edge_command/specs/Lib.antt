@@ -1,7 +1,6 @@
 pub mod Names
 pub mod Texts
 pub mod Channels
-pub mod Puts
 pub mod Writes
 pub mod Decoders
 pub mod Runs

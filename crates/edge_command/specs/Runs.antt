@@ -1,5 +1,5 @@
 -- How far a run has come; this project's own.
-use Rattle.std.specs.Prelude.{◌≡◌, ℕ, ◌+◌, ◌*◌, ◌≤◌, List, ◌++◌, length, Option, None, Some, Result, Err}
+use Rattle.std.specs.Prelude.{◌≡◌, ℕ, ◌≤◌, List, Option, None, Some, Result, Err}
 use Rattle.line_base.specs.declared.reason.Reason.{Reason}
 use Rattle.line_base.specs.declared.reason.Reason.TheVariants as reason
 use Rattle.line_base.specs.Causes.{Rose}
@@ -33,16 +33,3 @@ pub record TookBytes (old new : Run) (got got' : Option (List ℕ)) (earlier byt
 pub record IsStopOf (faults faults' : ℕ) (result : Result (Unit {0}) Reason) : Type 0 where
   pub later : faults ≤ faults'
   pub put : (lane : Option ℕ) → result ≡ Err (reason.WriteFault lane) → (lane ≡ None) × Rose faults faults'
-
--- these bytes of a block were taken
-pub record BlockSoFar (old new : Run) (got got' : Option (List ℕ)) (faults faults' : ℕ) (taken : List ℕ) : Type 0 where
-  pub setup : new.channel.setup ≡ old.channel.setup
-  pub number : new.channel.number ≤ old.channel.number + 16 * length taken
-  pub took : (bytes : List ℕ) → Reads old bytes → TookBytes old new got got' bytes (bytes ++ taken)
-  pub later : faults ≤ faults'
-
--- a front of a block was taken, and this is the rest of it
-pub record BlockBefore (old new : Run) (got got' : Option (List ℕ)) (faults faults' : ℕ) (block rest : List ℕ) : Type 0 where
-  pub taken : List ℕ
-  pub so_far : BlockSoFar old new got got' faults faults' taken
-  pub parts : taken ++ rest ≡ block

@@ -6,8 +6,7 @@ ghost use Rattle.std.specs.Io.KnownBytes.{Appends};
 ghost use Rattle.receiver_core.specs.declared.report.Report.{Report};
 ghost use Rattle.receiver_core.specs.Tallies.{tally_of, TellNoGap};
 ghost use Rattle.edge_command.specs.Texts.{report_line};
-ghost use Rattle.edge_command.specs.Channels.{lines_of};
-ghost use Rattle.edge_command.specs.Puts.{counted_in};
+ghost use Rattle.edge_command.specs.Channels.{lines_of, counted_in};
 
 use crate::report::{LINE_ROOM, TOTAL_ROOM, write_report, write_total};
 use arrayvec::{ArrayString, ArrayVec};

@@ -26,7 +26,7 @@ use Rattle.receiver_core.proofs.OpenStretches.{counted-more, open_stretch-more, 
 -- the edge adds these reports to those of any edges that the channel stands for
 abbrev pub Adds : SentChannel → ℕ → Edge → List Report → Type 0
 Adds channel number edge answers = (s : Settings) (layout : Layout) (serial : Serial) (seen : List NumberedEdge) → StandsForStretch s layout serial channel seen
-    → sent_reports layout serial None [] (sent_reading s (seen ++ record { number = number; edge = edge } ∷ [])) ≡ sent_reports layout serial None [] (sent_reading s seen) ++ answers
+    → sent_reports layout serial [] (sent_reading s (seen ++ record { number = number; edge = edge } ∷ [])) ≡ sent_reports layout serial [] (sent_reading s seen) ++ answers
 
 -- an edge adds to the open ones what it adds to the stretch
 pub edge-adds : (setup : ChannelSetup) (number : ℕ) (channel : SentChannel) (stretch : Option (List NumberedEdge)) (edge : Edge) (answers : List Report)
@@ -36,7 +36,7 @@ unfolding reports_from stretch_reports
 edge-adds (Sent line s layout serial) number channel None edge answers stands adds = absurd stands
 edge-adds (Sent line s layout serial) number channel (Some seen) edge answers stands adds = adds s layout serial seen stands
 
-none-reported : (s : Settings) (layout : Layout) (serial : Serial) → sent_reports layout serial None [] (sent_reading s []) ≡ []
+none-reported : (s : Settings) (layout : Layout) (serial : Serial) → sent_reports layout serial [] (sent_reading s []) ≡ []
 unfolding sent_reports reports_past
 none-reported s layout serial = refl
 

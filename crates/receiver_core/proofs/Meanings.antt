@@ -4,6 +4,7 @@ use Rattle.std.specs.List.{All}
 use Rattle.std.proofs.lemmas.List.Elements.{All-append, All-cons, All-drop, All-head, All-nil, All-tail}
 use Rattle.line_base.specs.declared.rule.Rule.{Rule}
 use Rattle.line_base.specs.declared.rule.Rule.TheVariants as rule
+use Rattle.sent_frame.specs.declared.frame.SentFrame.{SentFrame}
 use Rattle.sent_frame.specs.declared.frame.SentStep.{SentStep}
 use Rattle.sent_frame.specs.declared.frame.SentStep.TheVariants.{Nothing, Good, Bad}
 use Rattle.sent_frame.specs.Setup.{Settings}
@@ -25,7 +26,7 @@ use Rattle.receiver_core.specs.declared.setup.Serial.{Serial}
 use Rattle.receiver_core.specs.declared.setup.Serial.TheVariants as form
 use Rattle.receiver_core.specs.declared.setup.ChannelSetup.TheVariants.{Sent}
 use Rattle.receiver_core.specs.Serials.{serial_reading, serial_steps}
-use Rattle.receiver_core.specs.SentReports.{report, counter_reports, value_reports, serial_report, serial_reports, step_reports, watch_past_step, statuses_past_step, sent_reports}
+use Rattle.receiver_core.specs.SentReports.{report, counter_reports, value_reports, serial_report, serial_reports, step_reports, last_counter, statuses_of, frames_with, sent_reports}
 use Rattle.receiver_core.specs.Channels.{stretch_reports}
 use Rattle.receiver_core.specs.Meanings.{RuleStands, ReportStands}
 
@@ -99,16 +100,16 @@ step-stands s pulses l f before statuses (Good place frame) means =
     (value-stands s pulses place before l frame.nibbles) (serials-stand s pulses place (serial_steps f statuses frame.status) (all-added f statuses frame.status)))
 step-stands s pulses l f before statuses (Bad place r) means = one s pulses (report place (what.Bad r)) (frame-rule s pulses place r means)
 
-steps-stand : (s : Settings) (pulses : List Pulse) (l : Layout) (f : Serial) (before : Option ℕ) (statuses : List ℕ) (steps : List SentStep) → All (Means s pulses) steps
-    → All (ReportStands s pulses) (sent_reports l f before statuses steps)
+steps-stand : (s : Settings) (pulses : List Pulse) (l : Layout) (f : Serial) (frames : List SentFrame) (steps : List SentStep) → All (Means s pulses) steps
+    → All (ReportStands s pulses) (sent_reports l f frames steps)
 unfolding sent_reports
-steps-stand s pulses l f before statuses [] all = All-nil (ReportStands s pulses)
-steps-stand s pulses l f before statuses (step ∷ steps) all =
-    All-append (ReportStands s pulses) (step_reports l f before statuses step) (sent_reports l f (watch_past_step l before step) (statuses_past_step statuses step) steps)
-    (step-stands s pulses l f before statuses step (All-head (Means s pulses) step steps all))
-    (steps-stand s pulses l f (watch_past_step l before step) (statuses_past_step statuses step) steps (All-tail (Means s pulses) step steps all))
+steps-stand s pulses l f frames [] all = All-nil (ReportStands s pulses)
+steps-stand s pulses l f frames (step ∷ steps) all =
+    All-append (ReportStands s pulses) (step_reports l f (last_counter l frames) (statuses_of frames) step) (sent_reports l f (frames_with frames step) steps)
+    (step-stands s pulses l f (last_counter l frames) (statuses_of frames) step (All-head (Means s pulses) step steps all))
+    (steps-stand s pulses l f (frames_with frames step) steps (All-tail (Means s pulses) step steps all))
 
 -- the reports of a stretch stand for what is in its pulses
 pub stretch-stands : (line : ℕ) (s : Settings) (l : Layout) (f : Serial) (edges : List NumberedEdge) → All (ReportStands s (pulses_of edges)) (stretch_reports (Sent line s l f) edges)
 unfolding stretch_reports
-stretch-stands line s l f edges = steps-stand s (pulses_of edges) l f None [] (sent_reading s edges) (reports_mean s (pulses_of edges))
+stretch-stands line s l f edges = steps-stand s (pulses_of edges) l f [] (sent_reading s edges) (reports_mean s (pulses_of edges))

@@ -4,6 +4,7 @@ use Rattle.std.proofs.lemmas.List.Sums.{sum_by-cons}
 use Rattle.line_base.specs.declared.edge.Edge.{Edge}
 use Rattle.line_base.specs.declared.edge.Item.TheVariants as item
 use Rattle.line_base.specs.declared.rule.Rule.{Rule}
+use Rattle.sent_frame.specs.declared.frame.SentFrame.{SentFrame}
 use Rattle.sent_frame.specs.declared.frame.SentStep.{SentStep}
 use Rattle.sent_frame.specs.declared.frame.SentStep.TheVariants.{Nothing, Good, Bad}
 use Rattle.sent_frame.specs.Pulses.{NumberedEdge}
@@ -20,7 +21,7 @@ use Rattle.receiver_core.specs.declared.setup.Serial.{Serial}
 use Rattle.receiver_core.specs.declared.setup.ChannelSetup.{ChannelSetup}
 use Rattle.receiver_core.specs.declared.setup.ChannelSetup.TheVariants.{Sent}
 use Rattle.receiver_core.specs.Serials.{serial_steps}
-use Rattle.receiver_core.specs.SentReports.{counter_reports, value_reports, serial_report, serial_reports, step_reports, watch_past_step, statuses_past_step, sent_reports}
+use Rattle.receiver_core.specs.SentReports.{counter_reports, value_reports, serial_report, serial_reports, step_reports, last_counter, statuses_of, frames_with, sent_reports}
 use Rattle.receiver_core.specs.Channels.{stretch_reports, end_reports, reports_from, so_far, final}
 use Rattle.receiver_core.specs.Tallies.{is_gap, lost_in, TellNoGap}
 
@@ -69,16 +70,16 @@ step-none layout form before statuses (Good place frame) = (
 )
 step-none layout form before statuses (Bad place rule) = (refl, refl, tt)
 
-sent-none : (layout : Layout) (form : Serial) (before : Option ℕ) (statuses : List ℕ) (steps : List SentStep) → TellNoGap (sent_reports layout form before statuses steps)
+sent-none : (layout : Layout) (form : Serial) (frames : List SentFrame) (steps : List SentStep) → TellNoGap (sent_reports layout form frames steps)
 unfolding sent_reports
-sent-none layout form before statuses [] = tt
-sent-none layout form before statuses (step ∷ steps) =
-    tell-append (step_reports layout form before statuses step) (sent_reports layout form (watch_past_step layout before step) (statuses_past_step statuses step) steps)
-    (step-none layout form before statuses step) (sent-none layout form (watch_past_step layout before step) (statuses_past_step statuses step) steps)
+sent-none layout form frames [] = tt
+sent-none layout form frames (step ∷ steps) =
+    tell-append (step_reports layout form (last_counter layout frames) (statuses_of frames) step) (sent_reports layout form (frames_with frames step) steps)
+    (step-none layout form (last_counter layout frames) (statuses_of frames) step) (sent-none layout form (frames_with frames step) steps)
 
 stretch-tells : (setup : ChannelSetup) (stretch : List NumberedEdge) → TellNoGap (stretch_reports setup stretch)
 unfolding stretch_reports
-stretch-tells (Sent line s layout form) stretch = sent-none layout form None [] (sent_reading s stretch)
+stretch-tells (Sent line s layout form) stretch = sent-none layout form [] (sent_reading s stretch)
 
 end-tells : (setup : ChannelSetup) (stretch : List NumberedEdge) → TellNoGap (end_reports setup stretch)
 unfolding end_reports

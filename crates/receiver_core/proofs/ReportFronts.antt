@@ -1,5 +1,5 @@
 -- What was reported stays when more items come.
-use Rattle.std.proofs.Common.{◌≡◌, ℕ, ◌+◌, List, [], ◌∷◌, ◌++◌, None, ap, ◌∙◌}
+use Rattle.std.proofs.Common.{◌≡◌, ℕ, ◌+◌, List, [], ◌∷◌, ◌++◌, ap, ◌∙◌}
 use Rattle.line_base.specs.Streams.{IsFrontOf}
 use Rattle.line_base.specs.declared.edge.Item.{Item}
 use Rattle.line_base.specs.declared.edge.Item.TheVariants as item
@@ -10,7 +10,7 @@ use Rattle.sent_frame.proofs.Prefixes.{front-cons, reading-front}
 use Rattle.receiver_core.specs.declared.report.What.TheVariants as what
 use Rattle.receiver_core.specs.declared.setup.ChannelSetup.{ChannelSetup}
 use Rattle.receiver_core.specs.declared.setup.ChannelSetup.TheVariants.{Sent}
-use Rattle.receiver_core.specs.SentReports.{report, sent_reports, watch_past, statuses_past}
+use Rattle.receiver_core.specs.SentReports.{report, sent_reports, frames_past}
 use Rattle.receiver_core.specs.Channels.{stretch_reports, end_reports, reports_from, so_far, final}
 use Rattle.receiver_core.proofs.SentReports.{sent_reports-append}
 use Rattle.receiver_core.proofs.Links.{stretch-none}
@@ -26,8 +26,8 @@ unfolding stretch_reports
 stretch-front (Sent line s layout serial) stretch more =
     let steps = reading-front s stretch more in
     record {
-      rest = sent_reports layout serial (watch_past layout None (sent_reading s stretch)) (statuses_past [] (sent_reading s stretch)) steps.rest;
-      is = ap (sent_reports layout serial None []) steps.is ∙ sent_reports-append layout serial None [] (sent_reading s stretch) steps.rest;
+      rest = sent_reports layout serial (frames_past [] (sent_reading s stretch)) steps.rest;
+      is = ap (sent_reports layout serial []) steps.is ∙ sent_reports-append layout serial [] (sent_reading s stretch) steps.rest;
     }
 
 stretch-first : (setup : ChannelSetup) (number : ℕ) (stretch : List NumberedEdge) (more : List Item) → IsFrontOf (stretch_reports setup stretch) (reports_from setup number stretch more)

@@ -1,5 +1,6 @@
 -- The step that a status adds to the serial messages.
 use Rattle.std.proofs.Common.{◌≡◌, ℕ, List, [], ◌∷◌, ◌++◌, length, drop, flat_map, refl, ap, ◌∙◌}
+use Rattle.std.proofs.Math.Seq.{drop-append_seam}
 use Rattle.sent_serial.specs.declared.step.SerialStep.{SerialStep}
 use Rattle.sent_serial.specs.declared.step.SerialStep.TheVariants.{Nothing, Short, Enhanced, Bad}
 use Rattle.sent_serial.specs.Readings.{steps_of}
@@ -7,16 +8,12 @@ use Rattle.receiver_core.specs.declared.setup.Serial.{Serial}
 use Rattle.receiver_core.specs.Serials.{serial_reading, serial_steps}
 use Rattle.receiver_core.specs.SentReports.{serial_report, serial_reports}
 
-behind : {A : Type 0} (xs ys : List A) → drop (length xs) (xs ++ ys) ≡ ys
-behind [] ys = refl
-behind (x ∷ xs) ys = behind xs ys
-
 -- the steps by which the reading grows are those that were answered
 pub steps-grow : (form : Serial) (statuses : List ℕ) (status : ℕ) (step : SerialStep)
     → serial_reading form (statuses ++ status ∷ []) ≡ serial_reading form statuses ++ steps_of step → serial_steps form statuses status ≡ steps_of step
 unfolding serial_steps
 steps-grow form statuses status step grows =
-    ap (drop (length (serial_reading form statuses))) grows ∙ behind (serial_reading form statuses) (steps_of step)
+    ap (drop (length (serial_reading form statuses))) grows ∙ drop-append_seam (serial_reading form statuses) (steps_of step)
 
 one-report : (place : ℕ) (step : SerialStep) → flat_map (serial_report place) (steps_of step) ≡ serial_report place step
 one-report place Nothing = refl

@@ -1,5 +1,5 @@
 -- Which reports a channel gives of its items; this project's own.
-use Rattle.std.specs.Prelude.{ℕ, ◌+◌, List, [], ◌∷◌, ◌++◌, None}
+use Rattle.std.specs.Prelude.{ℕ, ◌+◌, List, [], ◌∷◌, ◌++◌}
 use Rattle.line_base.specs.declared.edge.Item.{Item}
 use Rattle.line_base.specs.declared.edge.Item.TheVariants as item
 use Rattle.sent_frame.specs.Pulses.{NumberedEdge}
@@ -20,7 +20,7 @@ edges_counted (item.Cut ∷ items) = edges_counted items
 
 -- the reports of a stretch of edges, which no gap parts
 unfoldable pub stretch_reports : ChannelSetup → List NumberedEdge → List Report
-stretch_reports (Sent line setup layout serial) edges = sent_reports layout serial None [] (sent_reading setup edges)
+stretch_reports (Sent line setup layout serial) edges = sent_reports layout serial [] (sent_reading setup edges)
 
 -- the reports that the end adds to those of the last stretch: none for SENT
 unfoldable pub end_reports : ChannelSetup → List NumberedEdge → List Report

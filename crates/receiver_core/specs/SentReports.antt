@@ -1,6 +1,8 @@
 -- Which reports a SENT channel gives of what its reader ends (counter and serial messages: SAE J2716; order and resets: this project's own).
-use Rattle.std.specs.Prelude.{ℕ, ◌+◌, ◌%◌, ◌<◌, ◌==◌, flat_map, List, [], ◌∷◌, ◌++◌, Option, None, Some, Result, Ok, Err, if◌then◌else◌}
+use Rattle.std.specs.Prelude.{ℕ, ◌+◌, ◌%◌, ◌<◌, ◌==◌, flat_map, map, List, [], ◌∷◌, ◌++◌, Option, None, Some, Result, Ok, Err, if◌then◌else◌}
 use Rattle.line_base.specs.declared.rule.Rule.{Rule}
+use Rattle.std.specs.List.{last_or}
+use Rattle.sent_frame.specs.declared.frame.SentFrame.{SentFrame}
 use Rattle.sent_frame.specs.declared.frame.SentStep.{SentStep}
 use Rattle.sent_frame.specs.declared.frame.SentStep.TheVariants.{Nothing, Good, Bad}
 use Rattle.sent_fast.specs.declared.layout.Layout.{Layout}
@@ -33,7 +35,7 @@ value_reports place before (Ok (fast.Two a b)) = report place (what.Fast (fast.T
 value_reports place before (Ok (fast.Secure a counter)) = report place (what.Fast (fast.Secure a counter)) ∷ counter_reports place before counter
 value_reports place before (Ok (fast.Split a b)) = report place (what.Fast (fast.Split a b)) ∷ []
 
--- the counter of the last frame, after a frame that says this: its own if it has one, none after a broken rule, else the one before
+-- the counter to hold the next against, after a frame that says this: its own if it has one, none after a broken rule, else the one before
 abbrev pub watch_after : Option ℕ → Result Fast Rule → Option ℕ
 watch_after before (Err rule) = None
 watch_after before (Ok fast.Raw) = before
@@ -53,40 +55,59 @@ serial_report place (serial.Bad rule) = report place (what.Bad rule) ∷ []
 abbrev pub serial_reports : Serial → ℕ → List ℕ → ℕ → List Report
 serial_reports serial place before status = flat_map (serial_report place) (serial_steps serial before status)
 
--- the reports of one step of the reader, all at its place: a good frame, then what its nibbles say, then what its status ends; or the rule that is broken
+-- the reports of one step of the reader, all at its place, behind a frame of this counter and good frames of these statuses: a good frame, then what its nibbles say, then what its status ends; or the rule that is broken
 abbrev pub step_reports : Layout → Serial → Option ℕ → List ℕ → SentStep → List Report
 step_reports layout serial before statuses Nothing = []
 step_reports layout serial before statuses (Good place frame) =
     report place (what.Frame frame) ∷ (value_reports place before (fast_of layout frame.nibbles) ++ serial_reports serial place statuses frame.status)
 step_reports layout serial before statuses (Bad place rule) = report place (what.Bad rule) ∷ []
 
--- the counter of the last frame, after one step of the reader: none after a broken rule
+-- the counter to hold the next against, after one step of the reader: none after a broken rule
 abbrev pub watch_past_step : Layout → Option ℕ → SentStep → Option ℕ
 watch_past_step layout before Nothing = before
 watch_past_step layout before (Good place frame) = watch_after before (fast_of layout frame.nibbles)
 watch_past_step layout before (Bad place rule) = None
 
--- the statuses of the good frames since the last break, after one step of the reader: none after a broken rule
+-- the statuses since the last break, after one step of the reader: none after a broken rule
 abbrev pub statuses_past_step : List ℕ → SentStep → List ℕ
 statuses_past_step statuses Nothing = statuses
 statuses_past_step statuses (Good place frame) = statuses ++ frame.status ∷ []
 statuses_past_step statuses (Bad place rule) = []
 
--- the reports of steps of the reader, where the frame before them had this counter, and the frames since the last break these statuses
-unfoldable pub sent_reports : Layout → Serial → Option ℕ → List ℕ → List SentStep → List Report
-sent_reports layout serial before statuses [] = []
-sent_reports layout serial before statuses (step ∷ steps) =
-    step_reports layout serial before statuses step ++ sent_reports layout serial (watch_past_step layout before step) (statuses_past_step statuses step) steps
+-- the counter that a frame's nibbles say, if they say one
+abbrev pub counter_in : Result Fast Rule → Option ℕ
+counter_in (Ok (fast.Secure a counter)) = Some counter
+counter_in _ = None
 
--- the counter of the last frame, after these steps of the reader
-unfoldable pub watch_past : Layout → Option ℕ → List SentStep → Option ℕ
-watch_past layout before [] = before
-watch_past layout before (step ∷ steps) = watch_past layout (watch_past_step layout before step) steps
+-- the counter of a frame, if there is a frame and it says one
+abbrev pub counter_of : Layout → Option SentFrame → Option ℕ
+counter_of layout None = None
+counter_of layout (Some frame) = counter_in (fast_of layout frame.nibbles)
 
--- the statuses of the good frames since the last break, after these steps of the reader
-unfoldable pub statuses_past : List ℕ → List SentStep → List ℕ
-statuses_past statuses [] = statuses
-statuses_past statuses (step ∷ steps) = statuses_past (statuses_past_step statuses step) steps
+-- the counter of the last of these frames, if it says one
+abbrev pub last_counter : Layout → List SentFrame → Option ℕ
+last_counter layout frames = counter_of layout (last_or None frames)
+
+-- the statuses of these frames
+abbrev pub statuses_of : List SentFrame → List ℕ
+statuses_of frames = map (λ frame. frame.status) frames
+
+-- the good frames since the last break, with what one step more ends: a broken rule of frames is a break
+abbrev pub frames_with : List SentFrame → SentStep → List SentFrame
+frames_with frames Nothing = frames
+frames_with frames (Good place frame) = frames ++ frame ∷ []
+frames_with frames (Bad place rule) = []
+
+-- the reports of steps of the reader, behind these good frames since the last break: each frame's counter is held against that of the frame before, and its status is read with theirs
+unfoldable pub sent_reports : Layout → Serial → List SentFrame → List SentStep → List Report
+sent_reports layout serial frames [] = []
+sent_reports layout serial frames (step ∷ steps) =
+    step_reports layout serial (last_counter layout frames) (statuses_of frames) step ++ sent_reports layout serial (frames_with frames step) steps
+
+-- the good frames since the last break, behind these steps
+unfoldable pub frames_past : List SentFrame → List SentStep → List SentFrame
+frames_past frames [] = frames
+frames_past frames (step ∷ steps) = frames_past (frames_with frames step) steps
 
 -- a frame that the step reports has a status below 16 and as many nibbles as the layout
 abbrev pub IsReadable : Layout → SentStep → Type 0

@@ -175,8 +175,8 @@ impl SentChannel {
         ensures stands { (setup : Settings) (layout : Layout) (serial : Serial) (seen : List NumberedEdge) → StandsForStretch setup layout serial self.old seen
             → StandsForStretch setup layout serial self.new (seen ++ record { number = number; edge = edge } ∷ []) }
         ensures grows { (setup : Settings) (layout : Layout) (serial : Serial) (seen : List NumberedEdge) → StandsForStretch setup layout serial self.old seen
-            → sent_reports layout serial None [] (sent_reading setup (seen ++ record { number = number; edge = edge } ∷ []))
-            ≡ sent_reports layout serial None [] (sent_reading setup seen) ++ reports.new.items }
+            → sent_reports layout serial [] (sent_reading setup (seen ++ record { number = number; edge = edge } ∷ []))
+            ≡ sent_reports layout serial [] (sent_reading setup seen) ++ reports.new.items }
     {
         let step = self.reader.push(number, edge);
         push_step(

@@ -1,5 +1,5 @@
 use Rattle.std.proofs.Common.{length}
-use Rattle.edge_command.specs.Puts.{PutSoFar}
+use Rattle.edge_command.proofs.PutReports.{PutSoFar}
 use Rattle.edge_command.proofs.decoder.put_reports.Given as goal
 
 abbrev pub invariant-reports : goal.invariant-reports

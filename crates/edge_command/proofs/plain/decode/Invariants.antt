@@ -1,4 +1,4 @@
-use Rattle.edge_command.specs.Ended.{PulledSoFar}
+use Rattle.edge_command.proofs.Pulls.{PulledSoFar}
 use Rattle.edge_command.proofs.plain.decode.Given as goal
 
 abbrev pub invariant-loop-pull : goal.invariant-loop-pull

@@ -2,8 +2,7 @@ use Rattle.std.proofs.Common.{ℕ, ◌∷◌, [], ◌++◌, List, sym, subst}
 use Rattle.std.proofs.lemmas.Bool.{eqb-true}
 use Rattle.std.proofs.lemmas.Result.{err_from_is_err_and}
 use Rattle.edge_command.specs.declared.run.Run.{Run}
-use Rattle.edge_command.specs.Runs.{BlockBefore}
-use Rattle.edge_command.proofs.Blocks.{run-sliced, less-left, none-left, stopped-in}
+use Rattle.edge_command.proofs.Blocks.{BlockBefore, run-sliced, less-left, none-left, stopped-in}
 use Rattle.edge_command.proofs.run.Run.take_block.Goals as goal
 
 pub take_byte-requires-clause-reads : goal.take_byte-requires-clause-reads

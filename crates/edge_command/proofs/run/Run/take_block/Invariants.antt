@@ -1,5 +1,5 @@
 use Rattle.std.proofs.Common.{length}
-use Rattle.edge_command.specs.Runs.{BlockBefore}
+use Rattle.edge_command.proofs.Blocks.{BlockBefore}
 use Rattle.edge_command.proofs.run.Run.take_block.Given as goal
 
 abbrev pub invariant-bytes : goal.invariant-bytes

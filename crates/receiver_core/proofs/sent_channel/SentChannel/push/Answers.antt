@@ -1,9 +1,9 @@
 -- One edge more.
-use Rattle.std.proofs.Common.{ℕ, List, [], ◌∷◌, ◌++◌, None, ap, subst, sym, ◌∙◌}
+use Rattle.std.proofs.Common.{ℕ, List, [], ◌∷◌, ◌++◌, ap, subst, sym, ◌∙◌}
 use Rattle.sent_frame.specs.Pulses.{pulses_of}
 use Rattle.sent_frame.specs.Reading.{sent_reading}
 use Rattle.sent_fast.specs.declared.layout.Layout.{Layout}
-use Rattle.receiver_core.specs.SentReports.{sent_reports, statuses_past, IsReadable}
+use Rattle.receiver_core.specs.SentReports.{sent_reports, statuses_of, frames_past, IsReadable}
 use Rattle.receiver_core.specs.Serials.{SerialStandsFor}
 use Rattle.receiver_core.proofs.SentReports.{readable}
 use Rattle.receiver_core.proofs.SentStretches.{watch-more, statuses-more, reports-more}
@@ -27,10 +27,10 @@ returns-clause-stands c = λ setup layout serial seen before. record {
       ∙ watch-more setup layout serial c.args.self.now seen (record { number = c.args.number; edge = c.args.edge }) c.push-step.result before (c.push-step.ensures.grows setup seen before.reads);
   has_read = subst (λ (statuses : List ℕ). SerialStandsFor serial c.push_step.new.serial statuses)
       (statuses-more setup seen (record { number = c.args.number; edge = c.args.edge }) c.push-step.result (c.push-step.ensures.grows setup seen before.reads))
-      (c.push_step.ensures.serial serial (statuses_past [] (sent_reading setup seen)) before.has_read);
+      (c.push_step.ensures.serial serial (statuses_of (frames_past [] (sent_reading setup seen))) before.has_read);
 }
 
 pub returns-clause-grows : goal.returns-clause-grows
 returns-clause-grows c = λ setup layout serial seen before.
     reports-more setup layout serial c.args.self.now seen (record { number = c.args.number; edge = c.args.edge }) c.push-step.result before (c.push-step.ensures.grows setup seen before.reads)
-    ∙ ap (λ l. sent_reports layout serial None [] (sent_reading setup seen) ++ l) (sym (c.push_step.ensures.reports serial (statuses_past [] (sent_reading setup seen)) before.has_read))
+    ∙ ap (λ l. sent_reports layout serial [] (sent_reading setup seen) ++ l) (sym (c.push_step.ensures.reports serial (statuses_of (frames_past [] (sent_reading setup seen))) before.has_read))
