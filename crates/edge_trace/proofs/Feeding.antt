@@ -13,7 +13,8 @@ use Rattle.edge_trace.specs.declared.state.State.{State}
 use Rattle.edge_trace.specs.declared.row.Row.{Row}
 use Rattle.edge_trace.specs.declared.reader.EdgeReader.{EdgeReader}
 use Rattle.edge_trace.proofs.Telling.{fault_behind}
-use Rattle.edge_trace.proofs.Streams.{no_fault_open, past_limit, too_long, goes_on, open_goes_on, ends_line, open_behind, ends_between, ends_within, ended_push, open_push}
+use Rattle.edge_trace.proofs.Cutting.{ended_push, open_push}
+use Rattle.edge_trace.proofs.Streams.{no_fault_open, past_limit, too_long, goes_on, open_goes_on, ends_line, open_behind, ends_between, ends_within}
 use Rattle.edge_trace.proofs.StandingFor.{stands_going, stands_stopped, between_lines, within_line, limit_is, number_cases, answers_more, answers_same, whole_more, whole_same, any_number}
 
 module _ (old : EdgeReader) (now : State) (seen : List ℕ) (going : GoesOn old now seen) where
@@ -31,7 +32,7 @@ module _ (old : EdgeReader) (now : State) (seen : List ℕ) (going : GoesOn old 
       let long = ap length going.line_is in
       omega arith
 
-  next_ended : (ended : ℕ) → ended ≡ min (old.ended + 1) 18446744073709551615 → (ended ≡ length (ended_lines [] seen) + 1) × (ended < 2 ^ 63)
+  next_ended : (ended : ℕ) → ended ≡ min (old.ended + 1) 18446744073709551615 → (ended ≡ length (ended_lines seen) + 1) × (ended < 2 ^ 63)
   next_ended ended e =
       let few = going.few in
       let within = going.is_open.within in
@@ -40,7 +41,7 @@ module _ (old : EdgeReader) (now : State) (seen : List ℕ) (going : GoesOn old 
       (omega arith, omega arith)
 
   -- the reader has stopped at a fault of the line of the last byte
-  stopped_at : (new : EdgeReader) (line : ℕ) → new.state ≡ None → new.room ≡ 0 → new.line ≡ [] → new.ended ≡ min (old.ended + 1) 18446744073709551615 → line ≡ length (ended_lines [] seen) + 1 → HasEnded new line
+  stopped_at : (new : EdgeReader) (line : ℕ) → new.state ≡ None → new.room ≡ 0 → new.line ≡ [] → new.ended ≡ min (old.ended + 1) 18446744073709551615 → line ≡ length (ended_lines seen) + 1 → HasEnded new line
   stopped_at new line state_is closed line_is ended_is same =
       let next = next_ended new.ended ended_is in
       let next_is = next.0 in
@@ -64,13 +65,13 @@ module _ (old : EdgeReader) (now : State) (seen : List ℕ) (going : GoesOn old 
 
   pub takes_past : (new : EdgeReader) (byte : ℕ) → old.left ≤ length old.line → new.state ≡ None → new.room ≡ 0 → new.line ≡ [] → new.ended ≡ min (old.ended + 1) 18446744073709551615 → Takes new seen byte (Some (Err InputTooLong))
   takes_past new byte none state_is closed line_is ended_is =
-      stops_at new byte (length (ended_lines [] seen) + 1) InputTooLong (past_limit seen going.standing going.is_open byte (full none)) (stopped_at new (length (ended_lines [] seen) + 1) state_is closed line_is ended_is refl)
+      stops_at new byte (length (ended_lines seen) + 1) InputTooLong (past_limit seen going.standing going.is_open byte (full none)) (stopped_at new (length (ended_lines seen) + 1) state_is closed line_is ended_is refl)
 
   pub takes_too_long : (new : EdgeReader) (byte : ℕ) → length old.line < old.left → (byte ≡ 10 → ⊥) → old.room ≤ length old.line → new.state ≡ None → new.room ≡ 0 → new.line ≡ [] → new.ended ≡ min (old.ended + 1) 18446744073709551615 → Takes new seen byte (Some (Err LineTooLong))
   takes_too_long new byte some other no_room state_is closed line_is ended_is =
       let long = ap length going.line_is in
       let room_is = going.room_is in
-      stops_at new byte (1 + length (ended_lines [] seen)) LineTooLong (too_long seen going.standing going.is_open byte (room some) other (omega arith)) (stopped_at new (1 + length (ended_lines [] seen)) state_is closed line_is ended_is (omega arith))
+      stops_at new byte (1 + length (ended_lines seen)) LineTooLong (too_long seen going.standing going.is_open byte (room some) other (omega arith)) (stopped_at new (1 + length (ended_lines seen)) state_is closed line_is ended_is (omega arith))
 
   -- a byte within its line
   pub takes_byte : (new : EdgeReader) (byte : ℕ) → (byte ≡ 10 → ⊥) → length old.line < old.room → new.state ≡ Some now → new.levels ≡ old.levels → new.line ≡ old.line ++ byte ∷ [] → new.left ≡ old.left → new.room ≡ old.room → new.ended ≡ old.ended → Takes new seen byte None
@@ -79,12 +80,12 @@ module _ (old : EdgeReader) (now : State) (seen : List ℕ) (going : GoesOn old 
       let own_room = going.room_is in
       let own_left = going.left_is in
       let own_few = going.few in
-      let fits : length (open_line [] seen) < 512 = omega arith in
+      let fits : length (open_line seen) < 512 = omega arith in
       let below : length seen < input_limit = room (omega arith) in
       let t = ne_eqb byte 10 other in
-      let lines : ended_lines [] (seen ++ byte ∷ []) ≡ ended_lines [] seen = ended_push [] seen byte ∙ ap (λ t. ended_lines [] seen ++ cond t (open_line [] seen ∷ []) []) t ∙ append-nil (ended_lines [] seen) in
-      let line : open_line [] (seen ++ byte ∷ []) ≡ open_line [] seen ++ byte ∷ [] = open_push [] seen byte ∙ ap (λ t. cond t [] (open_line [] seen ++ byte ∷ [])) t in
-      let longer : length (open_line [] (seen ++ byte ∷ [])) ≡ length (open_line [] seen) + 1 = ap length line ∙ length_push (open_line [] seen) byte in
+      let lines : ended_lines (seen ++ byte ∷ []) ≡ ended_lines seen = ended_push seen byte ∙ ap (λ t. ended_lines seen ++ cond t (open_line seen ∷ []) []) t ∙ append-nil (ended_lines seen) in
+      let line : open_line (seen ++ byte ∷ []) ≡ open_line seen ++ byte ∷ [] = open_push seen byte ∙ ap (λ t. cond t [] (open_line seen ++ byte ∷ [])) t in
+      let longer : length (open_line (seen ++ byte ∷ [])) ≡ length (open_line seen) + 1 = ap length line ∙ length_push (open_line seen) byte in
       let more : length (seen ++ byte ∷ []) ≡ length seen + 1 = length_push seen byte in
       record {
         stands = stands_going new now (seen ++ byte ∷ []) state_is (record {
@@ -101,13 +102,13 @@ module _ (old : EdgeReader) (now : State) (seen : List ℕ) (going : GoesOn old 
       }
 
   -- an LF
-  lf_stands : (new : EdgeReader) (read : Result Read LineFault) → length old.line < old.left → content_read going.standing (without_cr (open_line [] seen)) ≡ read → IsBehind new read → new.line ≡ [] → new.ended ≡ min (old.ended + 1) 18446744073709551615 → new.left ≡ old.left - (length old.line + 1) → StandsFor new (seen ++ 10 ∷ [])
+  lf_stands : (new : EdgeReader) (read : Result Read LineFault) → length old.line < old.left → content_read going.standing (without_cr (open_line seen)) ≡ read → IsBehind new read → new.line ≡ [] → new.ended ≡ min (old.ended + 1) 18446744073709551615 → new.left ≡ old.left - (length old.line + 1) → StandsFor new (seen ++ 10 ∷ [])
   unfolding fault_of
   lf_stands new (Err fault) some e behind line_is ended_is left_is = stands_stopped new (seen ++ 10 ∷ []) behind.0 (record {
-    fault = (1 + length (ended_lines [] seen), fault);
+    fault = (1 + length (ended_lines seen), fault);
     is = ap fault_in (ends_line seen going.standing going.is_open (room some)) ∙ fault_behind (told_of seen) _ (no_fault_open seen going.standing going.is_open)
-        ∙ ap (λ r. fault_in (told_with (1 + length (ended_lines [] seen)) r (λ _. []))) e;
-    at = stopped_at new (1 + length (ended_lines [] seen)) behind.0 behind.1 line_is ended_is (omega arith);
+        ∙ ap (λ r. fault_in (told_with (1 + length (ended_lines seen)) r (λ _. []))) e;
+    at = stopped_at new (1 + length (ended_lines seen)) behind.0 behind.1 line_is ended_is (omega arith);
   })
   lf_stands new (Ok read) some e behind line_is ended_is left_is =
       let long = ap length going.line_is in
@@ -116,28 +117,28 @@ module _ (old : EdgeReader) (now : State) (seen : List ℕ) (going : GoesOn old 
       let next = next_ended new.ended ended_is in
       let next_is = next.0 in
       let more : length (seen ++ 10 ∷ []) ≡ length seen + 1 = length_push seen 10 in
-      let none : length (open_line [] (seen ++ 10 ∷ [])) ≡ 0 = ap length (open_push [] seen 10) in
+      let none : length (open_line (seen ++ 10 ∷ [])) ≡ 0 = ap length (open_push seen 10) in
       let own_ended = going.ended_is in
-      let lines : length (ended_lines [] (seen ++ 10 ∷ [])) ≡ length (ended_lines [] seen) + 1 = ap length (ended_push [] seen 10) ∙ length_push (ended_lines [] seen) (open_line [] seen) in
+      let lines : length (ended_lines (seen ++ 10 ∷ [])) ≡ length (ended_lines seen) + 1 = ap length (ended_push seen 10) ∙ length_push (ended_lines seen) (open_line seen) in
       stands_going new behind.0 (seen ++ 10 ∷ []) behind.1 (record {
         standing = read.standing;
         is_open = open_behind seen going.standing going.is_open read (room some) e;
         at = behind.2;
-        line_is = line_is ∙ sym (open_push [] seen 10);
+        line_is = line_is ∙ sym (open_push seen 10);
         left_is = omega arith;
         room_is = behind.3;
         ended_is = omega arith;
         few = omega arith;
       })
 
-  same_read : content_read going.standing (without_cr old.line) ≡ content_read going.standing (without_cr (open_line [] seen))
+  same_read : content_read going.standing (without_cr old.line) ≡ content_read going.standing (without_cr (open_line seen))
   same_read = ap (λ line. content_read going.standing (without_cr line)) going.line_is
 
   takes_lf_itself : (new : EdgeReader) (result : Option (Result Row LineFault)) → length old.line < old.left → EndsLine new (content_read going.standing (without_cr old.line)) result → new.line ≡ [] → new.ended ≡ min (old.ended + 1) 18446744073709551615 → new.left ≡ old.left - (length old.line + 1) → Takes new seen 10 result
   takes_lf_itself new result some ends line_is ended_is left_is = record {
-    stands = lf_stands new (content_read going.standing (without_cr (open_line [] seen))) some refl (subst (IsBehind new) same_read ends.behind) line_is ended_is left_is;
+    stands = lf_stands new (content_read going.standing (without_cr (open_line seen))) some refl (subst (IsBehind new) same_read ends.behind) line_is ended_is left_is;
     grows = answers_more seen (seen ++ 10 ∷ []) _ (ends_line seen going.standing going.is_open (room some))
-        ∙ ap (λ answers. answers_of seen ++ answers) (any_number (1 + length (ended_lines [] seen)) (content_read going.standing (without_cr (open_line [] seen))) ∙ ap answers_of_read (sym same_read) ∙ sym ends.answered);
+        ∙ ap (λ answers. answers_of seen ++ answers) (any_number (1 + length (ended_lines seen)) (content_read going.standing (without_cr (open_line seen))) ∙ ap answers_of_read (sym same_read) ∙ sym ends.answered);
   }
 
   pub takes_lf : (new : EdgeReader) (byte : ℕ) (result : Option (Result Row LineFault)) → byte ≡ 10 → length old.line < old.left → EndsLine new (content_read going.standing (without_cr old.line)) result → new.line ≡ [] → new.ended ≡ min (old.ended + 1) 18446744073709551615 → new.left ≡ old.left - (length old.line + 1) → Takes new seen byte result
@@ -149,12 +150,12 @@ module _ (old : EdgeReader) (now : State) (seen : List ℕ) (going : GoesOn old 
   empty_open (byte ∷ bytes) e = absurd (omega arith)
 
   pub finishes_between : length old.line ≡ 0 → whole_answers_of seen ≡ answers_of seen ++ []
-  finishes_between e = whole_same seen (ends_between seen going.standing going.is_open (empty_open (open_line [] seen) (sym (ap length going.line_is) ∙ e)))
+  finishes_between e = whole_same seen (ends_between seen going.standing going.is_open (empty_open (open_line seen) (sym (ap length going.line_is) ∙ e)))
 
   pub finishes_within : (new : EdgeReader) (result : Option (Result Row LineFault)) → (length old.line ≡ 0 → ⊥) → EndsLine new (content_read going.standing (without_cr old.line)) result → whole_answers_of seen ≡ answers_of seen ++ answers_in result
   finishes_within new result some ends =
       whole_more seen _ (ends_within seen going.standing going.is_open (λ z. some (ap length going.line_is ∙ z)))
-      ∙ ap (λ answers. answers_of seen ++ answers) (any_number (1 + length (ended_lines [] seen)) (content_read going.standing (without_cr (open_line [] seen))) ∙ ap answers_of_read (sym same_read) ∙ sym ends.answered)
+      ∙ ap (λ answers. answers_of seen ++ answers) (any_number (1 + length (ended_lines seen)) (content_read going.standing (without_cr (open_line seen))) ∙ ap answers_of_read (sym same_read) ∙ sym ends.answered)
 
   -- the number of the last line at the end of the input
   pub same_line : (number_in old ≡ line_number_of seen) × (old.ended < 2 ^ 63)
@@ -176,9 +177,6 @@ feeds_cases old new (Some now) seen byte going e other some state_is levels_are 
 pub feeds_byte : (old new : EdgeReader) (seen : List ℕ) (byte : ℕ) → StandsFor old seen → (byte ≡ 10 → ⊥) → length old.line < old.room → new.state ≡ old.state → new.levels ≡ old.levels → new.line ≡ old.line ++ byte ∷ [] → new.left ≡ old.left → new.room ≡ old.room → new.ended ≡ old.ended → Takes new seen byte None
 unfolding StandsFor
 feeds_byte old new seen byte stands other some state_is levels_are line_is left_is room_is ended_is = feeds_cases old new old.state seen byte stands refl other some state_is levels_are line_is left_is room_is ended_is
-
-pub no_room_behind : (reader : EdgeReader) (number : ℕ) → HasEnded reader number → length reader.line < reader.room → ⊥
-no_room_behind reader number ended some = let closed = ended.closed in omega arith
 
 pub grows_byte : (old : EdgeReader) (seen : List ℕ) (byte : ℕ) → StandsFor old seen → (byte ≡ 10 → ⊥) → length old.line < old.room → answers_of (seen ++ byte ∷ []) ≡ answers_of seen ++ []
 grows_byte old seen byte stands other some = (feeds_byte old (record old { line = old.line ++ byte ∷ [] }) seen byte stands other some refl refl refl refl refl refl).grows

@@ -1,7 +1,7 @@
 -- The steps by which a row is judged.
-use Rattle.std.proofs.Common.{◌≡◌, ℕ, ◌+◌, ◌*◌, ◌^◌, ◌<◌, ◌≤◌, Bool, true, false, nat_le, Option, Some, None, Result, Ok, Err, List, [], ◌∷◌, length, refl, sym, ◌∙◌, ap, subst, arith, zero-add}
+use Rattle.std.proofs.Common.{◌≡◌, ℕ, ◌+◌, ◌*◌, ◌^◌, ◌<◌, ◌≤◌, Bool, true, false, nat_le, is_some, Option, Some, None, Result, Ok, Err, List, [], ◌∷◌, length, refl, sym, ◌∙◌, ap, subst, arith, zero-add}
 use Rattle.std.specs.Option.{option_map, ok_or}
-use Rattle.std.proofs.lemmas.Bool.{le-leb, lt-leb, eq-eqb, ne_eqb}
+use Rattle.std.proofs.lemmas.Bool.{false≢true, le-leb, lt-leb, eq-eqb, ne_eqb}
 use Rattle.line_base.specs.declared.faults.LineFault.{LineFault}
 use Rattle.line_base.specs.declared.faults.LineFault.TheVariants.{Field, Number, Level, TimeBack, TooLarge}
 use Rattle.edge_trace.specs.Fields.{fields, without_blanks, cut_at, number_in, seconds_in, level_in}
@@ -126,6 +126,19 @@ cut_without mark text before rest e f = ap (λ (r : Option (Bor (List ℕ))). (b
 
 pub cut_with : (mark : ℕ) (text before : List ℕ) (rest : Option (Bor (List ℕ))) (found : Bor (List ℕ)) → (before, option_copied rest) ≡ cut_at mark text → rest ≡ Some found → (before, Some found.now) ≡ cut_at mark text
 cut_with mark text before rest found e f = ap (λ (r : Option (Bor (List ℕ))). (before, option_copied r)) (sym f) ∙ e
+
+-- whether there is more behind a field
+pub record HasMore {A : Type 0} (o : Option A) : Type 0 where
+  pub rest : A
+  pub is : o ≡ Some rest
+
+pub more_there : {A : Type 0} (o : Option A) → is_some o ≡ true → HasMore o
+more_there None e = absurd (false≢true e)
+more_there (Some rest) e = record { rest = rest; is = refl }
+
+pub no_more : {A : Type 0} (o : Option A) → is_some o ≡ false → o ≡ None
+no_more None e = refl
+no_more (Some rest) e = absurd (false≢true (sym e))
 
 -- what a narrow row is, by what is known of its three fields
 pub judged : (form : Form) (time_at : Stamp → ℕ) (before : ℕ) (content time line level : List ℕ) (r : Result Row LineFault) → fields content ≡ time ∷ line ∷ level ∷ [] → narrow_row form time_at before (time ∷ line ∷ level ∷ []) ≡ r → narrow_row form time_at before (fields content) ≡ r

@@ -1,14 +1,9 @@
 -- The edges of a row, kept as a level for each line.
-use Rattle.std.proofs.Common.{◌≡◌, ℕ, zero, suc, ◌+◌, ◌<◌, ◌≤◌, ◌==◌, Bool, cond, Option, None, Some, List, [], ◌∷◌, ◌++◌, length, set, get_or, replicate, filter, refl, sym, ◌∙◌, ap, subst, arith}
+use Rattle.std.proofs.Common.{◌≡◌, ℕ, zero, suc, ◌+◌, ◌<◌, ◌≤◌, ◌==◌, Bool, cond, Option, None, Some, List, [], ◌∷◌, ◌++◌, length, set, get_or, filter, refl, sym, ◌∙◌, ap, subst, arith}
 use Rattle.std.specs.Option.{option_map, option_to_list}
 use Rattle.std.proofs.lemmas.Bool.{eq-eqb, ne_eqb}
 use Rattle.line_base.specs.declared.edge.Edge.{Edge}
 use Rattle.edge_trace.specs.RowEdges.{edges_from, AreBelow}
-
--- no line has an edge
-pub no_edges : (time : ℕ) → edges_from 0 time (replicate 16 None) ≡ []
-unfolding edges_from
-no_edges time = refl
 
 -- there are at most as many edges as lines
 pub few_edges : (line time : ℕ) (levels : List (Option Bool)) → length (edges_from line time levels) ≤ length levels

@@ -1,7 +1,9 @@
+pub mod Cutting
 pub mod Numbers
 pub mod LineEnds
 pub mod KeptEdges
 pub mod ToldLevels
+pub mod LeftEdges
 pub mod Judging
 pub mod PlainRows
 pub mod FirstLines
@@ -16,5 +18,7 @@ pub mod Runs
 pub mod Growth
 pub mod Ordering
 pub mod OrderedLists
+pub mod OrderlyItems
 pub mod Times
 pub mod ReadsBack
+pub mod WrittenEdges

@@ -1,9 +1,11 @@
 -- Edge lists are ordered, line by line.
-use Rattle.std.proofs.Common.{◌≡◌, ℕ, suc, ◌+◌, ◌≤◌, ◌==◌, ◌&&◌, nat_le, nat_lt, Bool, true, false, cond, Option, Some, None, Result, Ok, Err, List, [], ◌∷◌, ◌++◌, length, take, filter_map, flat_map, count_by, codes, is_some, refl, sym, ◌∙◌, ap, subst, arith}
+use Rattle.std.proofs.Common.{◌≡◌, ℕ, suc, ◌+◌, ◌-◌, ◌*◌, ◌^◌, ◌≤◌, ◌==◌, ◌&&◌, nat_le, nat_lt, Bool, true, false, cond, Option, Some, None, Result, Ok, Err, List, [], ◌∷◌, ◌++◌, length, take, filter_map, flat_map, count_by, codes, is_some, refl, sym, ◌∙◌, ap, subst, arith, length-append}
 use Rattle.std.specs.Option.{ok_or}
 use Rattle.std.specs.Result.{result_ok}
 use Rattle.std.specs.List.{list_all}
-use Rattle.std.proofs.lemmas.Bool.{leb-true, eqb-true}
+use Rattle.std.proofs.lemmas.Bool.{leb-true, eqb-true, ltb-true, ltb-false}
+use Rattle.std.proofs.lemmas.List.{length_push, length-take-le}
+use Rattle.std.proofs.lemmas.List.Sums.{length-filter, count_by-le-length}
 use Rattle.line_base.specs.declared.edge.Edge.{Edge}
 use Rattle.line_base.specs.declared.faults.LineFault.{LineFault}
 use Rattle.line_base.specs.declared.faults.LineFault.TheVariants.{Field, Level, TimeBack, Version, LineTooLong, InputTooLong}
@@ -15,6 +17,7 @@ use Rattle.edge_trace.specs.Rows.{◌>>=◌, check, Form, Narrow, Units, Wide, S
 use Rattle.edge_trace.specs.EdgeLists.{level_before, edges_among, is_new, option_else, without_row, Standing, AtStart, Formless, InRows, Read, is_skipped, is_name_byte, unit_in, columns_in, narrow_form, header_read, forming_read, version_read, row_read, content_read, line_read, Told, told_row, told_with, told_from}
 use Rattle.edge_trace.specs.Limits.{input_limit, long_line, last_line, told_within, told_past, told_of, whole_told_of, fault_in, rows_of, edges_of, whole_rows_of, whole_edges_of}
 use Rattle.edge_trace.specs.Ordered.{AreOrdered}
+use Rattle.edge_trace.proofs.Cutting.{lines_joined}
 use Rattle.edge_trace.proofs.Ordering.{bound, checked, found, same_levels, one_said, all_said, levels_behind, behind_same, eqb_sym, filter_cons, RowSays, NarrowSays, WideSays, time_in_range, narrow_says}
 
 -- the levels of a wide row are as many as its fields
@@ -66,14 +69,20 @@ FewColumns Narrow = Unit {0}
 FewColumns (Units unit) = Unit {0}
 FewColumns (Wide columns) = columns ≤ 16
 
--- the edges of a row, and more behind them
+said_count : (line time : ℕ) (high : List Bool) → length (said_from line time high) ≡ length high
+said_count line time [] = refl
+said_count line time (level ∷ high) = ap suc (said_count (line + 1) time high)
+
+-- the edges of a row, at most 16, and more behind them
 record RowOrdered (time before : ℕ) (rows said : List Edge) : Type 0 where
+  few : length said ≤ 16
   ordered : (more : List Edge) → AreOrdered time (λ line. level_before line (said ++ rows)) more → AreOrdered before (λ line. level_before line rows) (edges_among rows said ++ more)
 
 narrow_ordered : (time_at : Stamp → ℕ) (before : ℕ) (rows : List Edge) (row : Row) → RowSays time_at before row → NarrowSays time_at row → RowOrdered (time_at row.stamp) before rows row.said
 narrow_ordered time_at before rows row says narrow =
     let edge : Edge = record { line = narrow.line; time = time_at row.stamp; level = narrow.level } in
     subst (RowOrdered (time_at row.stamp) before rows) (sym narrow.said_is) (record {
+      few = omega arith;
       ordered = λ more ordered. subst (AreOrdered before (λ line. level_before line rows)) (sym (filter_cons (λ (e : Edge). is_new (level_before e.line rows) e.level) edge [] more (is_new (level_before narrow.line rows) narrow.level)))
           (one_said (time_at row.stamp) before narrow.line narrow.level (λ line. level_before line rows) (level_before narrow.line rows) more (is_new (level_before narrow.line rows) narrow.level) refl refl narrow.low says.later says.range
           (same_levels (time_at row.stamp) (λ line. level_before line (edge ∷ rows)) (levels_with (λ line. level_before line rows) narrow.line narrow.level) more
@@ -83,6 +92,7 @@ narrow_ordered time_at before rows row says narrow =
 wide_ordered : (columns : ℕ) (time_at : Stamp → ℕ) (before : ℕ) (rows : List Edge) (row : Row) → columns ≤ 16 → RowSays time_at before row → WideSays columns time_at row → RowOrdered (time_at row.stamp) before rows row.said
 wide_ordered columns time_at before rows row few says wide =
     subst (RowOrdered (time_at row.stamp) before rows) (sym wide.said_is) (record {
+      few = (let count = wide.few in omega (arith, said_count 0 (time_at row.stamp) wide.high));
       ordered = λ more ordered. all_said (time_at row.stamp) before 0 wide.high (λ line. level_before line rows) (λ line. level_before line rows) more (λ other h. refl) (let count = wide.few in omega arith) says.later says.range
           (same_levels (time_at row.stamp) (λ line. level_before line (said_from 0 (time_at row.stamp) wide.high ++ rows)) (levels_behind (λ line. level_before line rows) 0 wide.high) more (λ other. behind_same (time_at row.stamp) wide.high rows other) ordered);
     })
@@ -115,9 +125,10 @@ Fits AtStart = Unit {0}
 Fits (Formless unit) = Unit {0}
 Fits (InRows form stamps rows) = FewColumns form
 
--- the edges of a line, and more behind them
+-- the edges of a line, at most 16, and more behind them
 record LineOrdered (standing : Standing) (read : Read) : Type 0 where
   fits : Fits read.standing
+  few : length read.edges ≤ 16
   ordered : (more : List Edge) → AreOrdered (time_at_standing read.standing) (levels_at_standing read.standing) more → AreOrdered (time_at_standing standing) (levels_at_standing standing) (read.edges ++ more)
 
 -- a line without a row
@@ -126,6 +137,7 @@ quiet standing next read fits times levels e =
     let same : record { standing = next; edges = [] } ≡ read = (let f : Ok (record { standing = next; edges = [] }) ≡ Ok read = e in cc) in
     subst (LineOrdered standing) same (record {
       fits = fits;
+      few = omega arith;
       ordered = λ more ordered. subst (λ (time : ℕ). AreOrdered time (levels_at_standing standing) more) times (same_levels (time_at_standing next) (levels_at_standing next) (levels_at_standing standing) more levels ordered);
     })
 
@@ -137,6 +149,7 @@ row_line standing form stamps rows content read few times levels e =
     let row = row_ordered form stamps rows content step.value few step.is in
     subst (LineOrdered standing) same (record {
       fits = few;
+      few = (let said = row.few in let kept = length-filter (λ (edge : Edge). is_new (level_before edge.line rows) edge.level) step.value.said in let no_more = count_by-le-length (λ (edge : Edge). is_new (level_before edge.line rows) edge.level) step.value.said in omega arith);
       ordered = λ more ordered. subst (λ (time : ℕ). AreOrdered time (levels_at_standing standing) (edges_among rows step.value.said ++ more)) times
           (same_levels (time_of form stamps) (λ line. level_before line rows) (levels_at_standing standing) (edges_among rows step.value.said ++ more) levels (row.ordered more ordered));
     })
@@ -229,6 +242,70 @@ start_ordered : (lines : List (List ℕ)) → AreOrdered 0 (λ _. None) (edges_t
 unfolding Fits time_at_standing levels_at_standing
 start_ordered lines = told_ordered 1 AtStart lines tt
 
+-- each line has at most 16 edges
+count_step : (number : ℕ) (standing : Standing) (r : Result Read LineFault) (lines : List (List ℕ)) → ((read : Read) → r ≡ Ok read → LineOrdered standing read) → ((next : Standing) → Fits next → length (edges_told (told_from (number + 1) next lines)) ≤ 16 * length lines)
+    → length (edges_told (told_with number r (λ next. told_from (number + 1) next lines))) ≤ 16 * suc (length lines)
+unfolding edges_told
+count_step number standing (Err fault) lines line later = omega arith
+count_step number standing (Ok read) lines line later =
+    let here = line read refl in
+    let few = here.few in
+    let others = later read.standing here.fits in
+    let all = ap length (told_edges number read.edges (told_from (number + 1) read.standing lines)) in
+    let both = length-append read.edges (edges_told (told_from (number + 1) read.standing lines)) in
+    omega arith
+
+told_count : (number : ℕ) (standing : Standing) (lines : List (List ℕ)) → Fits standing → length (edges_told (told_from number standing lines)) ≤ 16 * length lines
+unfolding told_from edges_told
+told_count number standing [] fits = omega arith
+told_count number standing (line ∷ lines) fits = count_step number standing (line_read standing line) lines (λ read e. line_ordered standing line read fits e) (λ next f. told_count (number + 1) next lines f)
+
+-- each line has at least a byte
+line_bytes : (lines : List (List ℕ)) → length lines ≤ length (flat_map (λ line. line ++ 10 ∷ []) lines)
+line_bytes [] = omega arith
+line_bytes (line ∷ lines) =
+    let others = line_bytes lines in
+    let both = length-append (line ++ 10 ∷ []) (flat_map (λ line. line ++ 10 ∷ []) lines) in
+    let ended = length_push line 10 in
+    omega arith
+
+few_lines : (bytes : List ℕ) → length (ended_lines bytes) + length (open_line bytes) ≤ length bytes
+few_lines bytes =
+    let each = line_bytes (ended_lines bytes) in
+    let whole = ap length (lines_joined bytes) in
+    let both = length-append (flat_map (λ line. line ++ 10 ∷ []) (ended_lines bytes)) (open_line bytes) in
+    omega arith
+
+long_count : (t : Bool) (line : List ℕ) → nat_lt 512 (length line) ≡ t → length (cond t (line ∷ []) []) ≤ length line
+long_count true line e = let long = ltb-true 512 (length line) e in omega arith
+long_count false line e = omega arith
+
+last_count : (line : List ℕ) → length (last_line line) ≤ length line
+last_count [] = omega arith
+last_count (byte ∷ bytes) = omega arith
+
+-- edges that are ordered, and fewer than 2^40
+record IsOrderedList (edges : List Edge) : Type 0 where
+  ordered : AreOrdered 0 (λ _. None) edges
+  few : length edges ≤ 2 ^ 40
+
+limit_is : input_limit ≡ 2 ^ 36 - 1
+unfolding input_limit
+limit_is = refl
+
+lines_listed : (bytes : List ℕ) (last : List (List ℕ)) → length bytes ≤ input_limit → length last ≤ length (open_line bytes) → IsOrderedList (edges_told (told_from 1 AtStart (ended_lines bytes ++ last)))
+unfolding Fits
+lines_listed bytes last within fits = record {
+  ordered = start_ordered (ended_lines bytes ++ last);
+  few = (
+      let count = told_count 1 AtStart (ended_lines bytes ++ last) tt in
+      let both = length-append (ended_lines bytes) last in
+      let lines = few_lines bytes in
+      let limit = limit_is in
+      omega arith
+      );
+}
+
 -- a fault adds no edge
 no_edge : (told : List Told) (number : ℕ) (fault : LineFault) → edges_told (told ++ (number, Err fault) ∷ []) ≡ edges_told told
 unfolding edges_told
@@ -236,28 +313,43 @@ no_edge [] number fault = refl
 no_edge ((other, Ok row) ∷ told) number fault = ap (λ edges. row ++ edges) (no_edge told number fault)
 no_edge ((other, Err own) ∷ told) number fault = no_edge told number fault
 
-within_ordered : (bytes : List ℕ) → AreOrdered 0 (λ _. None) (edges_told (told_within bytes))
+within_listed : (bytes : List ℕ) → length bytes ≤ input_limit → IsOrderedList (edges_told (told_within bytes))
 unfolding told_within
-within_ordered bytes = start_ordered (ended_lines [] bytes ++ long_line (open_line [] bytes))
+within_listed bytes within = lines_listed bytes (long_line (open_line bytes)) within (long_count (nat_lt 512 (length (open_line bytes))) (open_line bytes) refl)
 
-past_ordered : (bytes : List ℕ) (told : List Told) (t : Bool) → AreOrdered 0 (λ _. None) (edges_told told) → AreOrdered 0 (λ _. None) (edges_told (cond t told (told ++ (length (ended_lines [] bytes) + 1, Err InputTooLong) ∷ [])))
-past_ordered bytes told true ordered = ordered
-past_ordered bytes told false ordered = subst (AreOrdered 0 (λ _. None)) (sym (no_edge told (length (ended_lines [] bytes) + 1) InputTooLong)) ordered
+past_listed : (bytes : List ℕ) (told : List Told) (t : Bool) → IsOrderedList (edges_told told) → IsOrderedList (edges_told (cond t told (told ++ (length (ended_lines bytes) + 1, Err InputTooLong) ∷ [])))
+past_listed bytes told true listed = listed
+past_listed bytes told false listed = subst IsOrderedList (sym (no_edge told (length (ended_lines bytes) + 1) InputTooLong)) listed
 
-limit_ordered : (bytes : List ℕ) (t : Bool) → AreOrdered 0 (λ _. None) (edges_told (cond t (told_past (take input_limit bytes) (told_within (take input_limit bytes))) (told_within bytes)))
-limit_ordered bytes true = past_ordered (take input_limit bytes) (told_within (take input_limit bytes)) (is_some (fault_in (told_within (take input_limit bytes)))) (within_ordered (take input_limit bytes))
-limit_ordered bytes false = within_ordered bytes
+limit_listed : (bytes : List ℕ) (t : Bool) → nat_lt input_limit (length bytes) ≡ t → IsOrderedList (edges_told (cond t (told_past (take input_limit bytes) (told_within (take input_limit bytes))) (told_within bytes)))
+limit_listed bytes true e =
+    past_listed (take input_limit bytes) (told_within (take input_limit bytes)) (is_some (fault_in (told_within (take input_limit bytes))))
+    (within_listed (take input_limit bytes) (let long = ltb-true input_limit (length bytes) e in let taken = length-take-le input_limit bytes (omega arith) in omega arith))
+limit_listed bytes false e = within_listed bytes (ltb-false input_limit (length bytes) e)
+
+so_far_listed : (bytes : List ℕ) → IsOrderedList (edges_of bytes)
+unfolding edges_of rows_of told_of edges_told
+so_far_listed bytes = limit_listed bytes (nat_lt input_limit (length bytes)) refl
+
+whole_or : (bytes : List ℕ) (t : Bool) → nat_lt input_limit (length bytes) ≡ t → IsOrderedList (edges_told (cond t (told_of bytes) (told_from 1 AtStart (ended_lines bytes ++ last_line (open_line bytes)))))
+unfolding told_of
+whole_or bytes true e = limit_listed bytes (nat_lt input_limit (length bytes)) refl
+whole_or bytes false e = lines_listed bytes (last_line (open_line bytes)) (ltb-false input_limit (length bytes) e) (last_count (open_line bytes))
+
+whole_listed : (bytes : List ℕ) → IsOrderedList (whole_edges_of bytes)
+unfolding whole_edges_of whole_rows_of whole_told_of edges_told
+whole_listed bytes = whole_or bytes (nat_lt input_limit (length bytes)) refl
 
 -- the edges of an edge list are ordered: on lines 0 to 15, with times that don't go back and are at most 10^15 ns, and with levels that alternate on each line
 pub edges_are_ordered : (bytes : List ℕ) → AreOrdered 0 (λ _. None) (edges_of bytes)
-unfolding edges_of rows_of told_of edges_told
-edges_are_ordered bytes = limit_ordered bytes (nat_lt input_limit (length bytes))
-
-whole_or : (bytes : List ℕ) (t : Bool) → AreOrdered 0 (λ _. None) (edges_told (cond t (told_of bytes) (told_from 1 AtStart (ended_lines [] bytes ++ last_line (open_line [] bytes)))))
-unfolding told_of
-whole_or bytes true = limit_ordered bytes (nat_lt input_limit (length bytes))
-whole_or bytes false = start_ordered (ended_lines [] bytes ++ last_line (open_line [] bytes))
+edges_are_ordered bytes = (so_far_listed bytes).ordered
 
 pub whole_edges_are_ordered : (bytes : List ℕ) → AreOrdered 0 (λ _. None) (whole_edges_of bytes)
-unfolding whole_edges_of whole_rows_of whole_told_of edges_told
-whole_edges_are_ordered bytes = whole_or bytes (nat_lt input_limit (length bytes))
+whole_edges_are_ordered bytes = (whole_listed bytes).ordered
+
+-- and there are at most 2^40 of them
+pub edges_are_few : (bytes : List ℕ) → length (edges_of bytes) ≤ 2 ^ 40
+edges_are_few bytes = (so_far_listed bytes).few
+
+pub whole_edges_are_few : (bytes : List ℕ) → length (whole_edges_of bytes) ≤ 2 ^ 40
+whole_edges_are_few bytes = (whole_listed bytes).few

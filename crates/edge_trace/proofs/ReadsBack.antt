@@ -14,7 +14,7 @@ use Rattle.edge_trace.specs.Texts.{level_digit, narrow_text}
 use Rattle.edge_trace.proofs.Judging.{narrow_time, stamped}
 use Rattle.edge_trace.proofs.Numbers.{digit_true}
 
-digit_bounds : (byte : ℕ) → is_digit byte ≡ true → (48 ≤ byte) × (byte ≤ 57)
+pub digit_bounds : (byte : ℕ) → is_digit byte ≡ true → (48 ≤ byte) × (byte ≤ 57)
 digit_bounds byte e =
     let parts = and_parts (nat_le 48 byte) (nat_le byte 57) e in
     (leb-true 48 byte parts.0, leb-true byte 57 parts.1)
@@ -59,7 +59,7 @@ digits_test = record {
 digits_fold : FoldsDigits number_after
 digits_fold = record { empty = λ n. refl; more = λ n c cs range. refl }
 
-numerals : IsNumeralModel (λ ds. list_all is_digit ds ≡ true) (number_after 0)
+pub numerals : IsNumeralModel (λ ds. list_all is_digit ds ≡ true) (number_after 0)
 numerals = numerals_by_fold (λ ds. list_all is_digit ds ≡ true) digits_test number_after digits_fold
 
 number_digits : (ds : List ℕ) → 0 < length ds → list_all is_digit ds ≡ true → Some (number_after 0 ds) ≡ number_in ds

@@ -9,7 +9,8 @@ use Rattle.edge_trace.specs.Readings.{IsAt}
 use Rattle.edge_trace.specs.Readers.{IsOpen, GoesOn, HasStopped, GoesOnOrStopped, StandsFor, HasEnded, TakesRun, IsLongest}
 use Rattle.edge_trace.specs.declared.state.State.{State}
 use Rattle.edge_trace.specs.declared.reader.EdgeReader.{EdgeReader}
-use Rattle.edge_trace.proofs.Streams.{goes_on, open_goes_on, ended_push, open_push}
+use Rattle.edge_trace.proofs.Cutting.{ended_push, open_push}
+use Rattle.edge_trace.proofs.Streams.{goes_on, open_goes_on}
 use Rattle.edge_trace.proofs.StandingFor.{stands_going, stands_stopped}
 
 -- no LF is among these bytes
@@ -33,34 +34,34 @@ front_no_lf block count fits none = record {
 record IsBehindRun (seen run : List ℕ) (standing : Standing) : Type 0 where
   pub is_open : IsOpen (seen ++ run) standing
   pub told : told_of (seen ++ run) ≡ told_of seen
-  pub line : open_line [] (seen ++ run) ≡ open_line [] seen ++ run
-  pub lines : ended_lines [] (seen ++ run) ≡ ended_lines [] seen
+  pub line : open_line (seen ++ run) ≡ open_line seen ++ run
+  pub lines : ended_lines (seen ++ run) ≡ ended_lines seen
 
-behind_run : (seen run : List ℕ) (standing : Standing) → IsOpen seen standing → HasNoLf run → length seen + length run ≤ input_limit → length (open_line [] seen) + length run ≤ 512 → IsBehindRun seen run standing
+behind_run : (seen run : List ℕ) (standing : Standing) → IsOpen seen standing → HasNoLf run → length seen + length run ≤ input_limit → length (open_line seen) + length run ≤ 512 → IsBehindRun seen run standing
 behind_run seen [] standing is_open free within short =
     let e : seen ++ [] ≡ seen = append-nil seen in
     record {
       is_open = subst (λ (bytes : List ℕ). IsOpen bytes standing) (sym e) is_open;
       told = ap told_of e;
-      line = ap (open_line []) e ∙ sym (append-nil (open_line [] seen));
-      lines = ap (ended_lines []) e;
+      line = ap (open_line) e ∙ sym (append-nil (open_line seen));
+      lines = ap (ended_lines) e;
     }
 behind_run seen (byte ∷ run) standing is_open free within short =
     let other = head_no_lf byte run free in
     let room : length seen < input_limit = omega arith in
-    let fits : length (open_line [] seen) < 512 = omega arith in
-    let now : open_line [] (seen ++ byte ∷ []) ≡ open_line [] seen ++ byte ∷ [] = open_push [] seen byte ∙ ap (λ t. cond t [] (open_line [] seen ++ byte ∷ [])) (ne_eqb byte 10 other) in
-    let lines : ended_lines [] (seen ++ byte ∷ []) ≡ ended_lines [] seen = ended_push [] seen byte ∙ ap (λ t. ended_lines [] seen ++ cond t (open_line [] seen ∷ []) []) (ne_eqb byte 10 other) ∙ append-nil (ended_lines [] seen) in
+    let fits : length (open_line seen) < 512 = omega arith in
+    let now : open_line (seen ++ byte ∷ []) ≡ open_line seen ++ byte ∷ [] = open_push seen byte ∙ ap (λ t. cond t [] (open_line seen ++ byte ∷ [])) (ne_eqb byte 10 other) in
+    let lines : ended_lines (seen ++ byte ∷ []) ≡ ended_lines seen = ended_push seen byte ∙ ap (λ t. ended_lines seen ++ cond t (open_line seen ∷ []) []) (ne_eqb byte 10 other) ∙ append-nil (ended_lines seen) in
     let longer = length_push seen byte in
-    let line_longer = length_push (open_line [] seen) byte in
+    let line_longer = length_push (open_line seen) byte in
     let now_long = ap length now in
     let later = behind_run (seen ++ byte ∷ []) run standing (open_goes_on seen standing is_open byte room other fits) (tail_no_lf byte run free) (omega arith) (omega arith) in
     let e : (seen ++ byte ∷ []) ++ run ≡ seen ++ byte ∷ run = append_assoc seen (byte ∷ []) run in
     record {
       is_open = subst (λ (bytes : List ℕ). IsOpen bytes standing) e later.is_open;
       told = ap told_of (sym e) ∙ later.told ∙ goes_on seen standing is_open byte room other fits;
-      line = ap (open_line []) (sym e) ∙ later.line ∙ ap (λ l. l ++ run) now ∙ append_assoc (open_line [] seen) (byte ∷ []) run;
-      lines = ap (ended_lines []) (sym e) ∙ later.lines ∙ lines;
+      line = ap (open_line) (sym e) ∙ later.line ∙ ap (λ l. l ++ run) now ∙ append_assoc (open_line seen) (byte ∷ []) run;
+      lines = ap (ended_lines) (sym e) ∙ later.lines ∙ lines;
     }
 
 answers_alike : (bytes after : List ℕ) → told_of after ≡ told_of bytes → answers_of after ≡ answers_of bytes
@@ -75,7 +76,7 @@ going_takes old new now seen run going free some state_is levels_are line_is lef
     let own_left = going.left_is in
     let own_few = going.few in
     let behind = behind_run seen run going.standing going.is_open free (omega arith) (omega arith) in
-    let longer : length (open_line [] (seen ++ run)) ≡ length (open_line [] seen) + length run = ap length behind.line ∙ length-append (open_line [] seen) run in
+    let longer : length (open_line (seen ++ run)) ≡ length (open_line seen) + length run = ap length behind.line ∙ length-append (open_line seen) run in
     let more = length-append seen run in
     record {
       stands = stands_going new now (seen ++ run) state_is (record {
@@ -147,17 +148,17 @@ takes_front old new seen block count stands fits few none state_is levels_are li
     takes_run old new seen (take count block) stands (front_no_lf block count fits none) (omega arith) state_is levels_are line_is left_is room_is ended_is
 
 -- the line behind a run of a block's front is longer by the run
-going_line : (seen block : List ℕ) (count : ℕ) (standing : Standing) → IsOpen seen standing → count ≤ length block → ((k : ℕ) → k < count → get_or block k 0 ≡ 10 → ⊥) → length seen + count ≤ input_limit → length (open_line [] seen) + count ≤ 512
-    → length (open_line [] (seen ++ take count block)) ≡ length (open_line [] seen) + count
+going_line : (seen block : List ℕ) (count : ℕ) (standing : Standing) → IsOpen seen standing → count ≤ length block → ((k : ℕ) → k < count → get_or block k 0 ≡ 10 → ⊥) → length seen + count ≤ input_limit → length (open_line seen) + count ≤ 512
+    → length (open_line (seen ++ take count block)) ≡ length (open_line seen) + count
 going_line seen block count standing is_open fits none within short =
     let long : length (take count block) ≡ count = length-take-le count block fits in
     let behind = behind_run seen (take count block) standing is_open (front_no_lf block count fits none) (omega arith) (omega arith) in
-    let more = length-append (open_line [] seen) (take count block) in
+    let more = length-append (open_line seen) (take count block) in
     let same = ap length behind.line in
     omega arith
 
 filled : (old : EdgeReader) (now : State) (seen block : List ℕ) (count : ℕ) → GoesOn old now seen → count ≤ length block → ((k : ℕ) → k < count → get_or block k 0 ≡ 10 → ⊥) → count ≡ old.room - length old.line
-    → (512 ≤ length (open_line [] (seen ++ take count block))) ⊎ (input_limit ≤ length seen + count)
+    → (512 ≤ length (open_line (seen ++ take count block))) ⊎ (input_limit ≤ length seen + count)
 filled old now seen block count going fits none full =
     let long = ap length going.line_is in
     let own_room = going.room_is in

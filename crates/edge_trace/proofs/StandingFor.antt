@@ -50,7 +50,7 @@ pub number_cases : (reader : EdgeReader) (s : Option State) (bytes : List ℕ) �
 unfolding line_number_of
 number_cases reader None bytes stopped = (stopped.at.number_is ∙ sym (ap (λ f. number_at f (lines_begun bytes)) stopped.is), stopped.at.small)
 number_cases reader (Some now) bytes going = (
-  ap (λ n. n + length (last_line reader.line)) going.ended_is ∙ ap (λ line. length (ended_lines [] bytes) + length (last_line line)) going.line_is ∙ number_open bytes going.standing going.is_open,
+  ap (λ n. n + length (last_line reader.line)) going.ended_is ∙ ap (λ line. length (ended_lines bytes) + length (last_line line)) going.line_is ∙ number_open bytes going.standing going.is_open,
   (let few = going.few in let within = going.is_open.within in let limit = limit_is in omega arith),
 )
 
@@ -140,11 +140,11 @@ start_levels : HasLevels (replicate 16 nothing) []
 unfolding HasLevels nothing
 start_levels = λ line. all_none 16 line
 
-no_line : [] ≡ open_line [] []
+no_line : [] ≡ open_line []
 unfolding open_line
 no_line = refl
 
-no_ended : 0 ≡ length (ended_lines [] [])
+no_ended : 0 ≡ length (ended_lines [])
 unfolding ended_lines
 no_ended = refl
 
@@ -152,7 +152,7 @@ pub new_stands : (reader : EdgeReader) → reader.state ≡ Some state.Start →
 unfolding nothing
 new_stands reader state_is line_is levels_are left_is room_is ended_is =
     let limit = limit_is in
-    let none : length (open_line [] []) ≡ 0 = sym (ap length no_line) in
+    let none : length (open_line []) ≡ 0 = sym (ap length no_line) in
     stands_going reader state.Start [] state_is (record {
       standing = AtStart;
       is_open = open_start;

@@ -1,9 +1,10 @@
 -- The levels of a row's lines, as the digits of a number.
-use Rattle.std.proofs.Common.{◌≡◌, ℕ, zero, suc, ◌+◌, ◌-◌, ◌*◌, ◌/◌, ◌%◌, ◌^◌, ◌<◌, ◌≤◌, ◌==◌, Bool, nat_lt, Option, None, Some, List, [], ◌∷◌, ◌++◌, ◌⊎◌, inl, inr, length, set, get_or, filter, refl, sym, ◌∙◌, ap, arith}
+use Rattle.std.proofs.Common.{◌≡◌, ℕ, zero, suc, ◌+◌, ◌-◌, ◌*◌, ◌/◌, ◌%◌, ◌^◌, ◌<◌, ◌≤◌, ◌==◌, Bool, true, false, nat_lt, Option, None, Some, List, [], ◌∷◌, ◌++◌, ◌⊎◌, inl, inr, length, set, get_or, filter, refl, sym, ◌∙◌, ap, arith}
 use Rattle.std.specs.Option.{option_to_list}
 use Rattle.std.proofs.lemmas.Nat.{shr-shr, pow-add}
 use Rattle.std.proofs.lemmas.Bool.{eq-eqb, ne_eqb, lt-ltb, cases_lt}
-use Rattle.edge_trace.specs.RowEdges.{edges_from, level_told, levels_told, AreBelow}
+use Rattle.line_base.specs.declared.edge.Edge.{Edge}
+use Rattle.edge_trace.specs.RowEdges.{edges_from, level_told, levels_told, digit_for, levels_kept, time_kept, IsKept, AreBelow}
 use Rattle.edge_trace.proofs.KeptEdges.{few_edges, put_level, edge_on_line}
 
 -- there is one for each line
@@ -185,7 +186,7 @@ pub no_edge_told : (time line number : ℕ) → line < 16 → number / 2 ^ (2 * 
 no_edge_told time line number lt none =
     edge_on_line time line (levels_told 16 number) None (level_at 16 line number lt ∙ ap level_told none)
 
-digit_level : (digit : ℕ) → 0 < digit → level_told digit ≡ Some (nat_lt 1 digit)
+pub digit_level : (digit : ℕ) → 0 < digit → level_told digit ≡ Some (nat_lt 1 digit)
 digit_level zero lt = absurd (omega arith)
 digit_level (suc zero) lt = refl
 digit_level (suc (suc digit)) lt = ap Some (sym (lt-ltb 1 (suc (suc digit)) (omega arith)))
@@ -194,19 +195,62 @@ pub edge_told : (time line number : ℕ) → line < 16 → 0 < number / 2 ^ (2 *
 edge_told time line number lt some =
     edge_on_line time line (levels_told 16 number) (Some (nat_lt 1 (number / 2 ^ (2 * line) % 4))) (level_at 16 line number lt ∙ digit_level _ some)
 
--- one more edge, by the digit that is put
-pub record HasPut (told time line number digit : ℕ) (level : Bool) : Type 0 where
-  pub fits : number + digit * 2 ^ (2 * line) % 4294967296 < 4294967296
-  pub edges : edges_from 0 time (levels_told 16 (number + digit * 2 ^ (2 * line) % 4294967296)) ≡ edges_from 0 told (levels_told 16 number) ++ record { line = line; time = time; level = level } ∷ []
+-- a level's digit
+pub digit_told : (level : Bool) → level_told (digit_for level) ≡ Some level
+digit_told true = refl
+digit_told false = refl
 
-pub has_put : (told time line number digit : ℕ) (level : Bool) → level_told digit ≡ Some level → digit < 4 → line < 16 → number < 4294967296 → AreBelow line time (edges_from 0 told (levels_told 16 number)) → HasPut told time line number digit level
-has_put told time line number digit level is small lt few below =
+digit_small : (level : Bool) → digit_for level < 4
+digit_small true = omega arith
+digit_small false = omega arith
+
+pow_four : (k : ℕ) → 4 ^ k ≡ 2 ^ (2 * k)
+pow_four zero = refl
+pow_four (suc k) =
+    let e : suc k ≡ 1 + k = omega arith in
+    let same = pow_four k in
+    let more : 4 ^ suc k ≡ 4 * 4 ^ k = ap (λ (j : ℕ). 4 ^ j) e ∙ pow-add 4 1 k in
+    omega (arith, four k)
+
+-- what is kept of one more edge
+kept_push : (edges : List Edge) (edge : Edge) → levels_kept (edges ++ edge ∷ []) ≡ levels_kept edges + digit_for edge.level * 2 ^ (2 * edge.line)
+unfolding levels_kept
+kept_push [] edge = let power = ap (λ (n : ℕ). digit_for edge.level * n) (pow_four edge.line) in omega arith
+kept_push (first ∷ edges) edge = let others = kept_push edges edge in omega arith
+
+time_push : (edges : List Edge) (edge : Edge) → AreBelow edge.line edge.time edges → time_kept (edges ++ edge ∷ []) ≡ edge.time
+unfolding time_kept AreBelow
+time_push [] edge below = refl
+time_push (first ∷ edges) edge below = below.1
+
+-- one more edge, by the digit that is put
+pub record HasPut (told time line number : ℕ) (level : Bool) : Type 0 where
+  pub fits : number + digit_for level * 2 ^ (2 * line) % 4294967296 < 4294967296
+  pub edges : edges_from 0 time (levels_told 16 (number + digit_for level * 2 ^ (2 * line) % 4294967296)) ≡ edges_from 0 told (levels_told 16 number) ++ record { line = line; time = time; level = level } ∷ []
+  pub is_kept : IsKept time (number + digit_for level * 2 ^ (2 * line) % 4294967296)
+
+pub has_put : (told time line number : ℕ) (level : Bool) → IsKept told number → line < 16 → number < 4294967296 → AreBelow line time (edges_from 0 told (levels_told 16 number)) → HasPut told time line number level
+has_put told time line number level kept lt few below =
+    let small = digit_small level in
     let none = no_digit_at told line time number lt below in
-    let fits : number + digit * 2 ^ (2 * line) < 4294967296 = digit_fits 16 line number digit lt small none few in
-    let whole : digit * 2 ^ (2 * line) % 4294967296 ≡ digit * 2 ^ (2 * line) = omega arith in
+    let fits : number + digit_for level * 2 ^ (2 * line) < 4294967296 = digit_fits 16 line number (digit_for level) lt small none few in
+    let whole : digit_for level * 2 ^ (2 * line) % 4294967296 ≡ digit_for level * 2 ^ (2 * line) = omega arith in
+    let edge : Edge = record { line = line; time = time; level = level } in
+    let edges : edges_from 0 time (levels_told 16 (number + digit_for level * 2 ^ (2 * line) % 4294967296)) ≡ edges_from 0 told (levels_told 16 number) ++ edge ∷ []
+    = ap (λ (n : ℕ). edges_from 0 time (levels_told 16 (number + n))) whole
+    ∙ ap (edges_from 0 time) (digit_put 16 line number (digit_for level) lt small none ∙ ap (set (levels_told 16 number) line) (digit_told level))
+    ∙ put_level 0 told time line line level (levels_told 16 number) (omega arith) (omega (arith, length_told 16 number)) below in
     record {
       fits = omega arith;
-      edges = ap (λ (n : ℕ). edges_from 0 time (levels_told 16 (number + n))) whole
-          ∙ ap (edges_from 0 time) (digit_put 16 line number digit lt small none ∙ ap (set (levels_told 16 number) line) is)
-          ∙ put_level 0 told time line line level (levels_told 16 number) (omega arith) (omega (arith, length_told 16 number)) below;
+      edges = edges;
+      is_kept = record {
+        time_is = ap time_kept edges ∙ time_push (edges_from 0 told (levels_told 16 number)) edge below;
+        number_is = ap levels_kept edges ∙ kept_push (edges_from 0 told (levels_told 16 number)) edge
+            ∙ ap (λ (n : ℕ). n + digit_for level * 2 ^ (2 * line)) kept.number_is ∙ ap (λ (n : ℕ). number + n) (sym whole);
+      };
     }
+
+-- nothing is kept of no edges
+pub nothing_kept : IsKept 0 0
+unfolding time_kept levels_kept
+nothing_kept = record { time_is = ap time_kept (none_told 0 0 16); number_is = ap levels_kept (none_told 0 0 16) }

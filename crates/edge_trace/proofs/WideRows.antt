@@ -4,7 +4,7 @@ use denote.Ref.{Bor}
 use Rattle.std.specs.Option.{option_map, option_copied}
 use Rattle.std.specs.List.{slice_split}
 use Rattle.std.proofs.lemmas.Bool.{le-leb, lt-leb, lt-ltb, le-ltb, eq-eqb, ne_eqb, cases_lt, cases_eq}
-use Rattle.std.proofs.lemmas.List.{append_assoc, append-nil, length_push, length-map, drop_more, drop_all, get_or-set_same, get_or-set_other}
+use Rattle.std.proofs.lemmas.List.{append_assoc, append-nil, length_push, length-map, drop_more, get_or-set_same, get_or-set_other, length-set}
 use Rattle.std.proofs.lemmas.List.Splits.{length-slice_split}
 use Rattle.line_base.specs.declared.edge.Edge.{Edge}
 use Rattle.line_base.specs.declared.faults.LineFault.{LineFault}
@@ -32,13 +32,6 @@ fields_cut text field (Some rest) e = fields_more text field rest e
 pub record LevelsSoFar (text : List ℕ) (levels : List Bool) (rest : Option (List ℕ)) : Type 0 where
   pub all : option_map (λ more. levels ++ more) (levels_in (fields_left rest)) ≡ levels_in (fields text)
   pub few : length levels + length (fields_left rest) ≤ 16
-
-same_option : (levels : Option (List Bool)) → option_map (λ (more : List Bool). [] ++ more) levels ≡ levels
-same_option None = refl
-same_option (Some levels) = refl
-
-pub no_levels : (text : List ℕ) → length (fields text) ≤ 16 → LevelsSoFar text [] (Some text)
-no_levels text few = record { all = same_option (levels_in (fields text)); few = omega arith }
 
 unchanged : (o : Option (List Bool)) (level : Bool) → field.◌>>=◌ o (λ levels. Some (level ∷ levels)) ≡ option_map (λ more. level ∷ more) o
 unchanged None level = refl
@@ -117,16 +110,18 @@ so_far_at text levels rest after so_far e = subst (λ (r : Option (Bor (List ℕ
 pub record KeptSoFar (before levels : List (Option Bool)) (time : ℕ) (row : List Bool) (edges : List Edge) (i : ℕ) : Type 0 where
   pub told : edges ++ filter (λ edge. is_new (get_or before edge.line None) edge.level) (said_from i time (drop i row)) ≡ filter (λ edge. is_new (get_or before edge.line None) edge.level) (said_from 0 time row)
   pub below : AreBelow i time edges
+  pub long : length levels ≡ 16
   pub kept : (line : ℕ) → get_or levels line None ≡ cond (nat_lt line i) (Some (get_or row line false)) (get_or before line None)
 
-pub none_kept : (before : List (Option Bool)) (time : ℕ) (row : List Bool) (edges : List Edge) → edges ≡ [] → KeptSoFar before before time row edges 0
-none_kept before time row edges e = record {
+pub none_kept : (before : List (Option Bool)) (time : ℕ) (row : List Bool) (edges : List Edge) → length before ≡ 16 → edges ≡ [] → KeptSoFar before before time row edges 0
+none_kept before time row edges long e = record {
   told = ap (λ (es : List Edge). es ++ filter (λ edge. is_new (get_or before edge.line None) edge.level) (said_from 0 time row)) e;
   below = none_below 0 time edges e;
+  long = long;
   kept = λ line. sym (ap (λ t. cond t (Some (get_or row line false)) (get_or before line None)) (le-ltb line 0 (omega arith)));
 }
 
-module _ (before levels : List (Option Bool)) (time : ℕ) (row : List Bool) (edges : List Edge) (i : ℕ) (so_far : KeptSoFar before levels time row edges i) (within : i < length row) (wide : length levels ≡ 16) (narrow : length row ≤ 16) where
+module _ (before levels : List (Option Bool)) (time : ℕ) (row : List Bool) (edges : List Edge) (i : ℕ) (so_far : KeptSoFar before levels time row edges i) (within : i < length row) (few : length row ≤ 16) where
   here : Edge
   here = record { line = i; time = time; level = get_or row i false }
 
@@ -148,7 +143,7 @@ module _ (before levels : List (Option Bool)) (time : ℕ) (row : List Bool) (ed
 
   kept_at : (line : ℕ) → get_or (set levels i (Some (get_or row i false))) line None ≡ cond (nat_lt line (i + 1)) (Some (get_or row line false)) (get_or before line None)
   kept_at line = elim (cases_eq line i) [
-    | inl e ↦ (let inside : i < length levels = omega arith in
+    | inl e ↦ (let long = so_far.long in let inside : i < length levels = omega arith in
         ap (λ k. get_or (set levels i (Some (get_or row i false))) k None) e ∙ get_or-set_same levels i (Some (get_or row i false)) None inside
         ∙ ap (λ k. Some (get_or row k false)) (sym e)
         ∙ ap (λ t. cond t (Some (get_or row line false)) (get_or before line None)) (sym (lt-ltb line (i + 1) (omega arith))))
@@ -163,6 +158,7 @@ module _ (before levels : List (Option Bool)) (time : ℕ) (row : List Bool) (ed
         ∙ ap (λ (es : List Edge). edges ++ es) (sym (next_said ∙ ap (λ t. cond t (here ∷ rest) rest) (sym (ap (λ o. is_new o (get_or row i false)) same_before) ∙ new)))
         ∙ so_far.told;
     below = below_push i time edges (get_or row i false) so_far.below;
+    long = length-set {A = Option Bool} levels i (Some (get_or row i false)) ∙ so_far.long;
     kept = kept_at;
   }
 
@@ -172,13 +168,9 @@ module _ (before levels : List (Option Bool)) (time : ℕ) (row : List Bool) (ed
     told = ap (λ (es : List Edge). edges ++ es) (sym (next_said ∙ ap (λ t. cond t (here ∷ rest) rest) (sym (ap (λ o. is_new o (get_or row i false)) same_before) ∙ old)))
         ∙ so_far.told;
     below = below_higher i time edges so_far.below;
+    long = length-set {A = Option Bool} levels i (Some (get_or row i false)) ∙ so_far.long;
     kept = kept_at;
   }
-
--- all columns
-pub all_told : (before levels : List (Option Bool)) (time : ℕ) (row : List Bool) (edges : List Edge) (i : ℕ) → KeptSoFar before levels time row edges i → length row ≤ i → edges ≡ filter (λ edge. is_new (get_or before edge.line None) edge.level) (said_from 0 time row)
-all_told before levels time row edges i so_far past =
-    sym (append-nil edges) ∙ ap (λ (ls : List Bool). edges ++ filter (λ edge. is_new (get_or before edge.line None) edge.level) (said_from i time ls)) (sym (drop_all i row past)) ∙ so_far.told
 
 -- the number of fields
 pub count_fields : (text : List ℕ) → length (fields text) ≡ count_by (λ b. b == 44) text + 1

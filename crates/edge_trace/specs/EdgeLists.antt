@@ -93,6 +93,10 @@ header_read None names = do
 abbrev pub forming_read : Option ℕ → List ℕ → Result Read LineFault
 forming_read unit content = option_else (after_front (codes "Time [s]") content) (header_read unit) (row_read (narrow_form unit) [] [] content)
 
+-- what a line gives where the form isn't decided yet
+abbrev pub formless_read : Option ℕ → List ℕ → Result Read LineFault
+formless_read unit content = if is_skipped content then without_row (Formless unit) else forming_read unit content
+
 -- what line 1 gives where it begins with `# version 2 `, behind which this stands
 abbrev pub version_read : List ℕ → Result Read LineFault
 version_read rest = do
@@ -101,8 +105,8 @@ version_read rest = do
 
 -- what a line of at most 512 bytes gives, without the CR at its end
 abbrev pub content_read : Standing → List ℕ → Result Read LineFault
-content_read AtStart content = option_else (after_front (codes "# version 2 ") content) version_read (if is_skipped content then without_row (Formless None) else forming_read None content)
-content_read (Formless unit) content = if is_skipped content then without_row (Formless unit) else forming_read unit content
+content_read AtStart content = option_else (after_front (codes "# version 2 ") content) version_read (formless_read None content)
+content_read (Formless unit) content = formless_read unit content
 content_read (InRows form stamps earlier) content = if is_skipped content then without_row (InRows form stamps earlier) else row_read form stamps earlier content
 
 -- what a line gives

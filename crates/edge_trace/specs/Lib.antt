@@ -10,3 +10,5 @@ pub mod Texts
 pub mod Readings
 pub mod Readers
 pub mod Ordered
+pub mod Items
+pub mod MoreBytes

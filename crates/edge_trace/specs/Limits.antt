@@ -22,7 +22,7 @@ last_line (byte ∷ bytes) = (byte ∷ bytes) ∷ []
 
 -- what is told of the lines of so many bytes as may stand in lines
 unfoldable pub told_within : List ℕ → List Told
-told_within bytes = told_from 1 AtStart (ended_lines [] bytes ++ long_line (open_line [] bytes))
+told_within bytes = told_from 1 AtStart (ended_lines bytes ++ long_line (open_line bytes))
 
 -- the first fault among what is told, with the number of its line
 abbrev pub fault_in : List Told → Option (ℕ × LineFault)
@@ -32,7 +32,7 @@ fault_in ((number, Err fault) ∷ told) = Some (number, fault)
 
 -- what is told where a further byte follows that may stand in no line: InputTooLong, unless an earlier fault was told
 abbrev pub told_past : List ℕ → List Told → List Told
-told_past bytes told = if is_some (fault_in told) then told else told ++ (length (ended_lines [] bytes) + 1, Err InputTooLong) ∷ []
+told_past bytes told = if is_some (fault_in told) then told else told ++ (length (ended_lines bytes) + 1, Err InputTooLong) ∷ []
 
 -- what is told of an edge list of these bytes, of which more may come
 unfoldable pub told_of : List ℕ → List Told
@@ -40,7 +40,7 @@ told_of bytes = if nat_lt input_limit (length bytes) then told_past (take input_
 
 -- what is told of an edge list of these bytes and no more
 unfoldable pub whole_told_of : List ℕ → List Told
-whole_told_of bytes = if nat_lt input_limit (length bytes) then told_of bytes else told_from 1 AtStart (ended_lines [] bytes ++ last_line (open_line [] bytes))
+whole_told_of bytes = if nat_lt input_limit (length bytes) then told_of bytes else told_from 1 AtStart (ended_lines bytes ++ last_line (open_line bytes))
 
 -- the rows with an edge, before the first fault
 unfoldable pub rows_of : List ℕ → List (List Edge)
@@ -76,7 +76,7 @@ whole_answers_of bytes = map (λ t. t.1) (whole_told_of bytes)
 
 -- how many lines these bytes have begun
 abbrev pub lines_begun : List ℕ → ℕ
-lines_begun bytes = length (ended_lines [] bytes) + length (last_line (open_line [] bytes))
+lines_begun bytes = length (ended_lines bytes) + length (last_line (open_line bytes))
 
 -- the number of the fault's line, or else this one
 abbrev pub number_at : Option (ℕ × LineFault) → ℕ → ℕ

@@ -1,23 +1,30 @@
 -- How bytes are cut into lines; this project's own.
-use Rattle.std.specs.Prelude.{ℕ, ◌==◌, List, [], ◌∷◌, ◌++◌, if◌then◌else◌}
+use Rattle.std.specs.Prelude.{ℕ, ◌==◌, Bool, List, [], ◌∷◌, if◌then◌else◌}
+use Rattle.std.specs.List.{slice_split}
 
--- the line that goes on behind a byte: an empty one behind an LF
-abbrev pub line_after : List ℕ → ℕ → List ℕ
-line_after line byte = if byte == 10 then [] else line ++ byte ∷ []
+-- the byte is an LF, which ends a line
+abbrev pub is_lf : ℕ → Bool
+is_lf byte = byte == 10
 
--- the line that a byte ends, if it is an LF
-abbrev pub ended_by : List ℕ → ℕ → List (List ℕ)
-ended_by line byte = if byte == 10 then line ∷ [] else []
+-- all of these parts but the last
+abbrev pub all_but_last : List (List ℕ) → List (List ℕ)
+all_but_last [] = []
+all_but_last (part ∷ []) = []
+all_but_last (part ∷ next ∷ parts) = part ∷ all_but_last (next ∷ parts)
 
--- the lines that end in these bytes, each without its LF, where the first of them has begun with `line`
-unfoldable pub ended_lines : List ℕ → List ℕ → List (List ℕ)
-ended_lines line [] = []
-ended_lines line (byte ∷ bytes) = ended_by line byte ++ ended_lines (line_after line byte) bytes
+-- the last of these parts
+abbrev pub last_of : List (List ℕ) → List ℕ
+last_of [] = []
+last_of (part ∷ []) = part
+last_of (part ∷ next ∷ parts) = last_of (next ∷ parts)
 
--- what stands behind the last LF of these bytes, where the first line has begun with `line`
-unfoldable pub open_line : List ℕ → List ℕ → List ℕ
-open_line line [] = line
-open_line line (byte ∷ bytes) = open_line (line_after line byte) bytes
+-- the lines that end in these bytes, each without its LF
+unfoldable pub ended_lines : List ℕ → List (List ℕ)
+ended_lines bytes = all_but_last (slice_split is_lf bytes)
+
+-- what stands behind the last LF of these bytes
+unfoldable pub open_line : List ℕ → List ℕ
+open_line bytes = last_of (slice_split is_lf bytes)
 
 -- a line without the one CR at its end, if it has one
 abbrev pub without_cr : List ℕ → List ℕ

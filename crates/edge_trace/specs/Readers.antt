@@ -19,8 +19,8 @@ answers_in (Some (Err fault)) = Err fault ∷ []
 -- these bytes have no fault, and the list has come so far behind the lines that ended
 pub record IsOpen (bytes : List ℕ) (standing : Standing) : Type 0 where
   pub within : length bytes ≤ input_limit
-  pub short : length (open_line [] bytes) ≤ 512
-  pub standing_is : standing_after AtStart (ended_lines [] bytes) ≡ Some standing
+  pub short : length (open_line bytes) ≤ 512
+  pub standing_is : standing_after AtStart (ended_lines bytes) ≡ Some standing
 
 -- the number of the line of the reader's last byte
 abbrev pub number_in : EdgeReader → ℕ
@@ -31,10 +31,10 @@ pub record GoesOn (reader : EdgeReader) (now : State) (bytes : List ℕ) : Type 
   pub standing : Standing
   pub is_open : IsOpen bytes standing
   pub at : IsAt now reader.levels standing
-  pub line_is : reader.line ≡ open_line [] bytes
-  pub left_is : reader.left + length bytes ≡ input_limit + length (open_line [] bytes)
+  pub line_is : reader.line ≡ open_line bytes
+  pub left_is : reader.left + length bytes ≡ input_limit + length (open_line bytes)
   pub room_is : reader.room ≡ min 512 reader.left
-  pub ended_is : reader.ended ≡ length (ended_lines [] bytes)
+  pub ended_is : reader.ended ≡ length (ended_lines bytes)
   pub few : reader.ended ≤ length bytes
 
 -- the reader has ended, at a fault or at the end of its input, at the line of this number
@@ -86,4 +86,4 @@ pub record TakesRun (reader : EdgeReader) (seen run : List ℕ) : Type 0 where
 -- a run of so many bytes of a block is as long as it may be: an LF stands behind it, or its line has 512 bytes, or the input has as many as may stand in lines
 abbrev pub IsLongest : List ℕ → List ℕ → ℕ → Type 0
 IsLongest seen block count =
-    (slice_index block count ≡ 10) ⊎ (512 ≤ length (open_line [] (seen ++ take count block))) ⊎ (input_limit ≤ length seen + count)
+    (slice_index block count ≡ 10) ⊎ (512 ≤ length (open_line (seen ++ take count block))) ⊎ (input_limit ≤ length seen + count)

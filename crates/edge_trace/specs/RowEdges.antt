@@ -1,5 +1,5 @@
 -- How the edges of a row are kept, which are at one time; this project's own.
-use Rattle.std.specs.Prelude.{◌≡◌, ℕ, zero, suc, ◌+◌, ◌/◌, ◌%◌, ◌<◌, Bool, true, false, Option, None, Some, List, [], ◌∷◌}
+use Rattle.std.specs.Prelude.{◌≡◌, ℕ, zero, suc, ◌+◌, ◌*◌, ◌/◌, ◌%◌, ◌^◌, ◌<◌, Bool, true, false, Option, None, Some, List, [], ◌∷◌}
 use Rattle.line_base.specs.declared.edge.Edge.{Edge}
 
 -- the edges at this time of the lines from this one on, each of which has its new level here, or no edge
@@ -18,6 +18,26 @@ level_told (suc (suc digit)) = Some true
 unfoldable pub levels_told : ℕ → ℕ → List (Option Bool)
 levels_told zero number = []
 levels_told (suc lines) number = level_told (number % 4) ∷ levels_told lines (number / 4)
+
+-- the digit of a level: 1 for low, 2 for high
+abbrev pub digit_for : Bool → ℕ
+digit_for false = 1
+digit_for true = 2
+
+-- the number that keeps the levels of these edges, by their digits in base 4, that of line 0 lowest
+unfoldable pub levels_kept : List Edge → ℕ
+levels_kept [] = 0
+levels_kept (edge ∷ edges) = digit_for edge.level * 4 ^ edge.line + levels_kept edges
+
+-- the time that is kept of these edges, or 0 where there are none
+unfoldable pub time_kept : List Edge → ℕ
+time_kept [] = 0
+time_kept (edge ∷ edges) = edge.time
+
+-- the time and the number are those that are kept of the edges which they tell
+pub record IsKept (time number : ℕ) : Type 0 where
+  pub time_is : time_kept (edges_from 0 time (levels_told 16 number)) ≡ time
+  pub number_is : levels_kept (edges_from 0 time (levels_told 16 number)) ≡ number
 
 -- these edges are of lines below this one, at this time
 unfoldable pub AreBelow : ℕ → ℕ → List Edge → Type 0

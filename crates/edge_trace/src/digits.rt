@@ -1,6 +1,6 @@
 //! Decimal numbers. Digits have no greatest number: a number above 10^15 is read as 10^15 + 1, which is
 //! above every bound that is asked of it.
-ghost use Rattle.std.specs.Prelude.{◌≡◌, ℕ, ◌≤◌, min, Some, None, option_map, IfSome, List, [], length, replicate, if◌then◌else◌};
+ghost use Rattle.std.specs.Prelude.{◌≡◌, ◌≤◌, min, Some, None, option_map, IfSome, replicate, if◌then◌else◌};
 ghost use Rattle.std.specs.List.{list_all};
 ghost use Rattle.edge_trace.specs.Fields.{is_digit, number_after, number_in, seconds_at, seconds_in, level_in};
 ghost use Rattle.edge_trace.specs.Digits.{capped};
@@ -63,28 +63,24 @@ pub(crate) fn seconds_of(field: &[u8]) -> Option<u64>
     }
 }
 
+/// The time in ns of a field of whole seconds.
 fn whole_seconds(whole: &[u8]) -> Option<u64>
     ensures { result ≡ option_map capped (seconds_at (whole.now, None)) }
 {
-    match number_of(whole) {
-        None => None,
-        Some(seconds) => Some(zeros_after(seconds, 9)),
-    }
+    let seconds = number_of(whole)?;
+    Some(zeros_after(seconds, 9))
 }
 
+/// The time in ns of seconds with 1 to 9 decimals.
 fn with_decimals(whole: &[u8], decimals: &[u8]) -> Option<u64>
     ensures { result ≡ option_map capped (seconds_at (whole.now, Some decimals.now)) }
 {
     if decimals.is_empty() || decimals.len() > 9 {
         return None;
     }
-    match number_of(whole) {
-        None => None,
-        Some(seconds) => match digits_after(seconds, decimals) {
-            None => None,
-            Some(number) => Some(zeros_after(number, 9 - decimals.len())),
-        },
-    }
+    let seconds = number_of(whole)?;
+    let number = digits_after(seconds, decimals)?;
+    Some(zeros_after(number, 9 - decimals.len()))
 }
 
 /// The level of a field: `0` is low and `1` is high.

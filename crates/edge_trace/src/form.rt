@@ -1,5 +1,5 @@
 //! What form the rows of a list have, and how the line looks that decides it.
-ghost use Rattle.std.specs.Prelude.{◌≡◌, ℕ, ◌≤◌, ◌==◌, count_by, IfSome};
+ghost use Rattle.std.specs.Prelude.{◌≡◌, ◌≤◌, ◌==◌, count_by, IfSome};
 ghost use Rattle.std.specs.List.{list_all};
 ghost use Rattle.edge_trace.specs.EdgeLists.{is_skipped, unit_in, columns_in, is_name_byte};
 
@@ -33,22 +33,13 @@ pub(crate) fn version_unit(rest: &[u8]) -> Option<u32>
     ensures value { result ≡ unit_in rest.now }
     ensures range { IfSome result (λ unit. (1 ≤ unit) × (unit ≤ 1000000)) }
 {
-    match behind(rest, b"unit=") {
-        None => None,
-        Some(text) => match before(text, b"ns") {
-            None => None,
-            Some(digits) => match number_of(digits) {
-                None => None,
-                Some(unit) => {
-                    if unit >= 1 && unit <= 1_000_000 {
-                        Some(unit as u32)
-                    } else {
-                        None
-                    }
-                }
-            },
-        },
+    let text = behind(rest, b"unit=")?;
+    let digits = before(text, b"ns")?;
+    let unit = number_of(digits)?;
+    if unit < 1 || unit > 1_000_000 {
+        return None;
     }
+    Some(unit as u32)
 }
 
 /// The number of columns, 1 to 16, of what stands behind `Time [s]` in a wide header.
@@ -56,16 +47,12 @@ pub(crate) fn header_columns(names: &[u8]) -> Option<usize>
     ensures value { result ≡ columns_in names.now }
     ensures range { IfSome result (λ columns. (1 ≤ columns) × (columns ≤ 16)) }
 {
-    match names.split_first() {
-        None => None,
-        Some((first, names)) => {
-            let columns = 1 + commas(names);
-            if *first == b',' && all_name_bytes(names) && columns <= 16 {
-                Some(columns)
-            } else {
-                None
-            }
-        }
+    let (first, names) = names.split_first()?;
+    let columns = 1 + commas(names);
+    if *first == b',' && all_name_bytes(names) && columns <= 16 {
+        Some(columns)
+    } else {
+        None
     }
 }
 

@@ -7,14 +7,19 @@
 
 mod digits;
 mod edge_text;
+mod edges_left;
 mod form;
 mod heads;
+mod levels;
 mod line_bytes;
 mod lines;
+mod list_laws;
+mod narrow;
 mod plain;
 mod reader;
 mod row;
 mod rows;
+mod stamps;
 mod state;
 #[cfg(test)]
 mod tests;
@@ -23,6 +28,11 @@ mod wide;
 
 pub use digits::number_of;
 pub use edge_text::edge_line;
+pub use edges_left::EdgesLeft;
+pub use list_laws::{
+    answers_grow, edges_are_ordered, edges_are_orderly, faults_stay,
+    lines_are_cut_at_each_line_feed, written_edges_are_read_back,
+};
 pub use reader::{EdgeReader, INPUT_LIMIT};
 pub use row::{Row, RowEdges};
 pub use texts::cut;

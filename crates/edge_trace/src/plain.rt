@@ -1,6 +1,6 @@
 //! Plain rows: digits, digits and a level with commas between them, and no blanks. Nearly all narrow rows
 //! are plain, so these are read in one pass; any other row is judged field by field.
-ghost use Rattle.std.specs.Prelude.{◌≡◌, ℕ, ◌≤◌, IfSome};
+ghost use Rattle.std.specs.Prelude.{◌≤◌, IfSome};
 ghost use Rattle.edge_trace.specs.PlainRows.{BeginsWithNumber, SpellsEdge};
 
 use crate::digits::level_of;
@@ -38,23 +38,15 @@ pub(crate) fn plain_row(content: &[u8]) -> Option<Edge>
     ensures spelled { IfSome result (λ edge. SpellsEdge content.now edge) }
     ensures line { IfSome result (λ edge. edge.line ≤ 15) }
 {
-    let (time, rest) = match number_before_comma(content) {
-        None => return None,
-        Some(parts) => parts,
-    };
-    let (line, last) = match number_before_comma(rest) {
-        None => return None,
-        Some(parts) => parts,
-    };
+    let (time, rest) = number_before_comma(content)?;
+    let (line, last) = number_before_comma(rest)?;
     if line > 15 {
         return None;
     }
-    match level_of(last) {
-        None => None,
-        Some(level) => Some(Edge {
-            line: line as u8,
-            time,
-            level,
-        }),
-    }
+    let level = level_of(last)?;
+    Some(Edge {
+        line: line as u8,
+        time,
+        level,
+    })
 }

@@ -5,8 +5,9 @@
 ghost use Rattle.std.specs.Prelude.{◌≡◌, ℕ, ◌≤◌, IsTrue};
 ghost use Rattle.edge_trace.specs.Readings.{is_in_range};
 
-use crate::heads::read_content;
+use crate::levels::Levels;
 use crate::line_bytes::{LINE_LIMIT, LineBytes};
+use crate::lines::read_content;
 use crate::row::{Row, RowEdges};
 use crate::state::State;
 use crate::texts::{content, length_before};
@@ -32,7 +33,7 @@ pub struct EdgeReader {
     /// How many lines have ended.
     ended: u64,
     /// The last level of each line, if it has one.
-    levels: [Option<bool>; 16],
+    levels: Levels,
     ghost in_range: { IsTrue (is_in_range state) },
     ghost fits: { room ≤ 512 },
 }
@@ -42,7 +43,7 @@ impl EdgeReader {
     ghost use Rattle.line_base.specs.declared.faults.LineFault.{LineFault as Fault};
     ghost use Rattle.edge_trace.specs.Lines.{without_cr};
     ghost use Rattle.edge_trace.specs.EdgeLists.{Standing, content_read};
-    ghost use Rattle.edge_trace.specs.Limits.{fault_of, answers_of, whole_answers_of, line_number_of, last_line};
+    ghost use Rattle.edge_trace.specs.Limits.{fault_of, answers_of, whole_fault_of, whole_answers_of, line_number_of, last_line};
     ghost use Rattle.edge_trace.specs.Readings.{IsAt};
     ghost use Rattle.edge_trace.specs.Readers.{answers_in, StandsFor, GoesOn, HasEnded, Takes, EndsLine, IsLongest};
 
@@ -96,17 +97,14 @@ impl EdgeReader {
     pub fn finish(&mut self) -> Option<Result<Row, LineFault>>
         ensures whole { (seen : List ℕ) → StandsFor self.old seen → whole_answers_of seen ≡ answers_of seen ++ answers_in result }
         ensures ends { (seen : List ℕ) → StandsFor self.old seen → HasEnded self.new (line_number_of seen) }
+        ensures stops { (seen : List ℕ) (number : ℕ) (fault : Fault) → StandsFor self.old seen → whole_fault_of seen ≡ Some (number, fault) → HasEnded self.new number }
         ensures ended { (number : ℕ) → HasEnded self.old number → (result ≡ None) × HasEnded self.new number }
     {
-        match self.state {
-            None => None,
-            Some(state) => {
-                let answer = self.end_input(state);
-                self.state = None;
-                self.room = 0;
-                answer
-            }
-        }
+        let state = self.state?;
+        let answer = self.end_input(state);
+        self.state = None;
+        self.room = 0;
+        answer
     }
 
     /// The number, from 1, of the line of the last byte taken, or of the fault; 0 before the first byte.
@@ -115,10 +113,9 @@ impl EdgeReader {
         ensures ended { (number : ℕ) → HasEnded self.now number → result ≡ number }
     {
         if self.line.len() == 0 {
-            self.ended
-        } else {
-            self.ended.saturating_add(1)
+            return self.ended;
         }
+        self.ended.saturating_add(1)
     }
 
     /// Takes a byte that is an LF, or for which there is no room.
@@ -127,18 +124,14 @@ impl EdgeReader {
         ensures takes { (seen : List ℕ) → StandsFor self.old seen → (byte ≡ 10) ⊎ (self.old.room ≤ length self.old.line) → Takes self.new seen byte result }
         ensures ended { (number : ℕ) → HasEnded self.old number → (result ≡ None) × HasEnded self.new number }
     {
-        match self.state {
-            None => None,
-            Some(state) => {
-                if self.line.len() as u64 >= self.left {
-                    return self.stop(LineFault::InputTooLong);
-                }
-                if byte == b'\n' {
-                    return self.end_line(state);
-                }
-                self.stop(LineFault::LineTooLong)
-            }
+        let state = self.state?;
+        if self.line.len() as u64 >= self.left {
+            return self.stop(LineFault::InputTooLong);
         }
+        if byte == b'\n' {
+            return self.end_line(state);
+        }
+        self.stop(LineFault::LineTooLong)
     }
 
     /// Judges the unfinished line, if there is one, as ended.

@@ -1,15 +1,17 @@
 //! What a line of input gives: the edges of its row.
 ghost use Rattle.std.specs.Prelude.{◌≡◌, ℕ, ◌+◌, ◌<◌, ◌≤◌, ◌==◌, List, [], ◌∷◌, ◌++◌, length, filter, Some};
 ghost use Rattle.std.specs.Option.{option_to_list};
-ghost use Rattle.edge_trace.specs.RowEdges.{AreBelow, level_told};
+ghost use Rattle.edge_trace.specs.RowEdges.{AreBelow, digit_for};
 
+use crate::edges_left::EdgesLeft;
 use line_base::Edge;
 use std::marker::Model;
 
-/// Up to 16 edges at one time, one for each line. Contracts see the list, in order of line numbers.
-#[derive(Debug, Drop)]
+/// Up to 16 edges at one time, one for each line. Contracts see the list, in order of line numbers. Two
+/// rows are equal exactly where their lists are.
+#[derive(Debug, Drop, PartialEq, Eq)]
 pub struct RowEdges {
-    /// The time of the edges in ns, if there are any.
+    /// The time of the edges in ns, or 0 where there are none.
     time: u64,
     /// One digit in base 4 for each line, the lowest for line 0: 0 for no edge, 1 for low, 2 for high.
     levels: u32,
@@ -18,18 +20,21 @@ pub struct RowEdges {
 impl Model for RowEdges {
     ghost use Rattle.std.specs.Prelude.{List};
     ghost use Rattle.line_base.specs.declared.edge.Edge.{Edge};
-    ghost use Rattle.edge_trace.specs.RowEdges.{edges_from, levels_told};
+    ghost use Rattle.edge_trace.specs.RowEdges.{edges_from, levels_told, levels_kept, time_kept, IsKept};
 
     ghost Value = { List Edge };
 
     ghost view = { λ row. edges_from 0 row.time (levels_told 16 row.levels) };
+
+    ghost invariant = { λ row. IsKept row.time row.levels };
+
+    ghost inverse = { λ edges. record { time = time_kept edges; levels = levels_kept edges } };
 }
 
 /// The digit of a line that has an edge to this level.
 #[inline]
 fn digit_of(level: bool) -> u32
-    ensures told { level_told result ≡ Some level }
-    ensures small { result < 4 }
+    ensures { result ≡ digit_for level }
 {
     if level { 2 } else { 1 }
 }
@@ -69,6 +74,18 @@ impl RowEdges {
         count
     }
 
+    /// The edges, to be taken one after another.
+    #[inline]
+    pub fn edges(&self) -> EdgesLeft
+        ensures { result ≡ self.now }
+    {
+        EdgesLeft {
+            time: self.time,
+            levels: self.levels,
+            line: 0,
+        }
+    }
+
     /// The edge of a line, if it has one.
     #[inline]
     pub fn edge_on(&self, line: u8) -> Option<Edge>
@@ -99,7 +116,7 @@ impl RowEdges {
 }
 
 /// The edges of one line of input.
-#[derive(Debug, Drop)]
+#[derive(Debug, Drop, PartialEq, Eq)]
 pub struct Row {
     /// In order of line numbers.
     pub edges: RowEdges,

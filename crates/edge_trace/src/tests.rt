@@ -341,6 +341,69 @@ fn a_run_is_taken_up_to_the_lf_and_no_further_than_512_bytes(rt: HostRuntime) {
     assert_eq!(rt; reader.line_number(), 2);
 }
 
+/// The row of the last line of a text, if it has an edge.
+fn last_row(text: &[u8]) -> Option<Row> {
+    let mut reader = EdgeReader::new();
+    for byte in text {
+        let _ = reader.feed(*byte);
+    }
+    match reader.finish() {
+        Some(Ok(row)) => Some(row),
+        _ => None,
+    }
+}
+
+#[test]
+fn two_rows_are_equal_exactly_where_their_edges_are(rt: HostRuntime) {
+    let first = last_row(b"1000000005,2,1");
+    assert!(rt; first.is_some());
+    for (text, same) in [
+        ("1000000005,2,1", true),
+        // The same edge in a wide row, behind one with the other level, and in units of 5 ns.
+        ("Time [s],,,\n0,0,0,0\n1.000000005,0,0,1", true),
+        ("# version 2 unit=5ns\n200000000,2,0\n+1,2,1", true),
+        ("1000000006,2,1", false),
+        ("1000000005,1,1", false),
+        ("1000000005,2,0", false),
+        ("Time [s],,,\n0,0,0,0\n1.000000005,0,1,1", false),
+        ("", false),
+    ] {
+        assert_eq!(rt; last_row(text.as_bytes()) == first, same, "{text}");
+    }
+}
+
+#[test]
+fn the_edges_of_a_row_are_taken_in_the_order_of_their_lines(rt: HostRuntime) {
+    let row = last_row(b"Time [s],,,,\n0,0,0,1,1\n1.000000005,0,1,1,0");
+    assert!(rt; row.is_some());
+    if let Some(row) = row {
+        let mut edges = row.edges.edges();
+        for (line, level) in [(1, true), (3, false)] {
+            let edge = Edge {
+                line,
+                time: 1_000_000_005,
+                level,
+            };
+            assert_eq!(rt; edges.take(), Some(edge));
+        }
+        assert_eq!(rt; edges.take(), None);
+        assert_eq!(rt; edges.take(), None);
+    }
+}
+
+#[test]
+fn a_refused_last_line_without_an_lf_has_its_number(rt: HostRuntime) {
+    let mut reader = EdgeReader::new();
+    assert_eq!(rt; reader.take_run(b"5,3,1"), 5);
+    assert!(rt; matches!(reader.feed(b'\n'), Some(Ok(_))));
+    assert_eq!(rt; reader.take_run(b"4,3,0"), 5);
+    assert_eq!(rt; reader.line_number(), 2);
+    assert!(rt; matches!(reader.finish(), Some(Err(TimeBack))));
+    assert_eq!(rt; reader.line_number(), 2);
+    assert!(rt; reader.feed(b'\n').is_none());
+    assert_eq!(rt; reader.line_number(), 2);
+}
+
 /// The text of an edge.
 fn text_of(edge: Edge) -> ArrayString<40>
     requires line { edge.line < 16 }

@@ -1,18 +1,15 @@
 //! Wide rows: a time in seconds, and one level for each column.
-ghost use Rattle.std.specs.Prelude.{◌≡◌, ℕ, ◌+◌, ◌≤◌, ◌<◌, ◌^◌, Option, option_map, Err, IfOk, IfErr, List, [], ◌∷◌, ◌++◌, length, filter, slice_index_or, nat_lt, None, Some, Bool, false, if◌then◌else◌};
-ghost use Rattle.line_base.specs.declared.faults.LineFault.TheVariants.{Field};
+ghost use Rattle.std.specs.Prelude.{◌≡◌, ◌≤◌, ◌^◌, option_map, Err, IfOk, IfErr, length};
 ghost use Rattle.edge_trace.specs.Fields.{fields, levels_in};
 ghost use Rattle.edge_trace.specs.Rows.{wide_row, said_from};
-ghost use Rattle.edge_trace.specs.EdgeLists.{is_new};
 ghost use Rattle.edge_trace.specs.Readings.{stamp_time, IsStamped};
 
 use crate::digits::level_of;
 use crate::form::{Form, commas};
-use crate::row::RowEdges;
-use crate::rows::time_in;
+use crate::stamps::time_in;
 use crate::texts::{cut, trimmed};
 use arrayvec::ArrayVec;
-use line_base::{Edge, LineFault};
+use line_base::LineFault;
 
 /// The levels of these fields, up to 16.
 fn levels_of(text: &[u8]) -> Option<ArrayVec<bool, 16>>
@@ -23,10 +20,7 @@ fn levels_of(text: &[u8]) -> Option<ArrayVec<bool, 16>>
     let mut rest = Some(text);
     'fields: while let Some(text) = rest {
         let (field, others) = cut(text, b',');
-        match level_of(trimmed(field)) {
-            None => return None,
-            Some(level) => levels.push(level),
-        }
+        levels.push(level_of(trimmed(field))?);
         rest = others;
     }
     Some(levels)
@@ -49,53 +43,14 @@ pub(crate) fn wide(
     }
     let (time, rest) = cut(content, b',');
     let time = time_in(Form::Wide(columns), before, trimmed(time))?;
-    match rest {
-        None => Err(LineFault::Field),
-        Some(rest) => match levels_of(rest) {
-            None => Err(LineFault::Level),
-            Some(levels) => {
-                if time < before {
-                    Err(LineFault::TimeBack)
-                } else {
-                    Ok((time, levels))
-                }
-            }
-        },
+    let Some(rest) = rest else {
+        return Err(LineFault::Field);
+    };
+    let Some(levels) = levels_of(rest) else {
+        return Err(LineFault::Level);
+    };
+    if time < before {
+        return Err(LineFault::TimeBack);
     }
-}
-
-/// Whether a level is another than the one before, or the first.
-#[inline]
-pub(crate) fn changes(before: Option<bool>, level: bool) -> bool
-    ensures { result ≡ is_new before level }
-{
-    match before {
-        None => true,
-        Some(before) => before != level,
-    }
-}
-
-/// Adds the edges of a wide row whose lines had these levels before, and keeps its levels.
-pub(crate) fn keep_levels(
-    time: u64,
-    row: &[bool],
-    levels: &mut [Option<bool>],
-    edges: &mut RowEdges,
-)
-    requires long { length levels.old ≡ 16 }
-    requires few { length row.now ≤ 16 }
-    requires empty { edges.old ≡ [] }
-    ensures edges { edges.new ≡ filter (λ edge. is_new (slice_index_or levels.old edge.line None) edge.level) (said_from 0 time row.now) }
-    ensures levels { (line : ℕ) → slice_index_or levels.new line None ≡ (if nat_lt line (length row.now) then Some (slice_index_or row.now line false) else slice_index_or levels.old line None) }
-{
-    for (line, level) in row.iter().enumerate() {
-        if changes(levels[line], *level) {
-            edges.push(Edge {
-                line: line as u8,
-                time,
-                level: *level,
-            });
-        }
-        levels[line] = Some(*level);
-    }
+    Ok((time, levels))
 }

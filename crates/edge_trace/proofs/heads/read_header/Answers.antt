@@ -1,5 +1,7 @@
+use Rattle.std.proofs.Common.{sym}
+use Rattle.edge_trace.proofs.Judging.{no_more}
 use Rattle.edge_trace.proofs.Reading.{good_header}
 use Rattle.edge_trace.proofs.heads.read_header.Goals as goal
 
-pub returns-in-Some-header_columns-clause-read : goal.returns-in-Some-header_columns-clause-read
-returns-in-Some-header_columns-clause-read c = λ levels has. good_header _ _ _ levels c.in-None.is c.in-Some-header_columns.ensures.value has c.in-Some-header_columns.ensures.range
+pub returns-clause-read : goal.returns-clause-read
+returns-clause-read c = λ levels has. good_header _ _ _ levels (no_more c.args.unit (sym c.if-is_some.ensures)) c.in-Some.ensures.value has c.in-Some.ensures.range

@@ -1,5 +1,5 @@
 use Rattle.edge_trace.proofs.PlainRows.{plain_edge}
 use Rattle.edge_trace.proofs.plain.plain_row.Goals as goal
 
-pub returns-in-Some-level_of-clause-spelled : goal.returns-in-Some-level_of-clause-spelled
-returns-in-Some-level_of-clause-spelled c = plain_edge _ _ _ _ _ _ c.in-Some.ensures c.in-Some-number_before_comma.ensures c.in-Some-level_of.ensures
+pub returns-clause-spelled : goal.returns-clause-spelled
+returns-clause-spelled c = plain_edge _ _ _ _ _ _ c.in_ok-time.ensures c.in_ok-line.ensures c.in_ok-level.ensures

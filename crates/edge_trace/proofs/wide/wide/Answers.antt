@@ -21,16 +21,16 @@ levels_of-requires c =
     let has = has_columns c.args.columns _ _ _ (cut_with _ _ _ _ _ c.cut.ensures c.in-Some.is) (sym c.commas.ensures ∙ c.if-commas-columns.false) in
     omega (arith, has.counted)
 
-pub returns-in-None-clause-fault : goal.returns-in-None-clause-fault
-returns-in-None-clause-fault c =
-    let has = has_columns c.args.columns _ _ _ (cut_without _ _ _ _ c.cut.ensures c.in-None.is) (sym c.commas.ensures ∙ c.if-commas-columns.false) in
+pub returns-in_default-clause-fault : goal.returns-in_default-clause-fault
+returns-in_default-clause-fault c =
+    let has = has_columns c.args.columns _ _ _ (cut_without _ _ _ _ c.cut.ensures c.in_default.is) (sym c.commas.ensures ∙ c.if-commas-columns.false) in
     absurd (omega (arith, has.counted))
 
-pub returns-in-None-levels_of-clause-fault : goal.returns-in-None-levels_of-clause-fault
-returns-in-None-levels_of-clause-fault c =
+pub returns-in_default-levels_of-clause-fault : goal.returns-in_default-levels_of-clause-fault
+returns-in_default-levels_of-clause-fault c =
     let has = has_columns c.args.columns _ _ _ (cut_with _ _ _ _ _ c.cut.ensures c.in-Some.is) (sym c.commas.ensures ∙ c.if-commas-columns.false) in
     let time = found _ _ _ (c.in_ok-time.ensures.value ∙ ap (λ field. seen_by (stamp_time 1 c.args.before) (time_field (Wide c.args.columns) (stamp_time 1 c.args.before) field)) c.trimmed.ensures) in
-    judged_wide _ _ _ _ _ _ _ has.parts (wide_level_fault _ _ _ _ _ has.counted _ time.is c.in-None-levels_of.ensures)
+    judged_wide _ _ _ _ _ _ _ has.parts (wide_level_fault _ _ _ _ _ has.counted _ time.is c.in_default-levels_of.ensures)
 
 pub returns-then-time-before-clause-fault : goal.returns-then-time-before-clause-fault
 returns-then-time-before-clause-fault c =
@@ -39,8 +39,8 @@ returns-then-time-before-clause-fault c =
     let seen_is = time.seen_is in
     judged_wide _ _ _ _ _ _ _ has.parts (wide_back_fault _ _ _ _ _ has.counted _ _ time.is c.in-Some-levels_of.ensures (omega arith))
 
-pub returns-else-time-before-clause-good : goal.returns-else-time-before-clause-good
-returns-else-time-before-clause-good c =
+pub returns-clause-good : goal.returns-clause-good
+returns-clause-good c =
     let has = has_columns c.args.columns _ _ _ (cut_with _ _ _ _ _ c.cut.ensures c.in-Some.is) (sym c.commas.ensures ∙ c.if-commas-columns.false) in
     let time = c.in_ok-time.ensures.value ∙ ap (λ field. seen_by (stamp_time 1 c.args.before) (time_field (Wide c.args.columns) (stamp_time 1 c.args.before) field)) c.trimmed.ensures in
     stamped_wide _ _ _ _ _ _ _ _ has.parts has.counted time c.in-Some-levels_of.ensures (omega arith)

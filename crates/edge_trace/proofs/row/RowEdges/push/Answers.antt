@@ -6,12 +6,17 @@ use Rattle.edge_trace.proofs.row.RowEdges.push.Goals as goal
 
 pub overflow_add-self : goal.overflow_add-self
 overflow_add-self c =
-    let put = has_put c.self.inside.time c.args.edge.time c.args.edge.line c.self.inside.levels c.digit_of.result c.args.edge.level c.digit_of.ensures.told c.digit_of.ensures.small c.requires.line (omega arith)
+    let put = has_put c.self.inside.time c.args.edge.time c.args.edge.line c.self.inside.levels c.args.edge.level c.self.invariant c.requires.line (omega arith)
     (subst (AreBelow c.args.edge.line c.args.edge.time) (sym c.self.view_is) c.requires.below) in
-    rw c.from.ensures (omega (arith, put.fits))
+    rw (c.from.ensures, c.digit_of.ensures) (omega (arith, put.fits))
 
 pub returns : goal.returns
 returns c =
-    rw c.from.ensures ((has_put c.self.inside.time c.args.edge.time c.args.edge.line c.self.inside.levels c.digit_of.result c.args.edge.level c.digit_of.ensures.told c.digit_of.ensures.small c.requires.line (omega arith)
+    rw (c.from.ensures, c.digit_of.ensures) ((has_put c.self.inside.time c.args.edge.time c.args.edge.line c.self.inside.levels c.args.edge.level c.self.invariant c.requires.line (omega arith)
     (subst (AreBelow c.args.edge.line c.args.edge.time) (sym c.self.view_is) c.requires.below)).edges
     ∙ ap (λ (es : List Edge). es ++ c.args.edge ∷ []) c.self.view_is)
+
+pub invariant_of-self : goal.invariant_of-self
+invariant_of-self c =
+    rw (c.from.ensures, c.digit_of.ensures) (has_put c.self.inside.time c.args.edge.time c.args.edge.line c.self.inside.levels c.args.edge.level c.self.invariant c.requires.line (omega arith)
+    (subst (AreBelow c.args.edge.line c.args.edge.time) (sym c.self.view_is) c.requires.below)).is_kept
