@@ -1,6 +1,7 @@
 pub mod Serials
 pub mod SentReports
 pub mod Meanings
+pub mod ItemMeanings
 pub mod SentStretches
 pub mod OpenStretches
 pub mod Links

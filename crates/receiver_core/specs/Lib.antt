@@ -1,6 +1,7 @@
 pub mod Setups
 pub mod Serials
 pub mod SentReports
+pub mod Stretches
 pub mod Meanings
 pub mod SentStretches
 pub mod Channels

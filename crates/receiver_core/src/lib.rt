@@ -15,7 +15,7 @@ mod tally;
 #[cfg(test)]
 mod tests;
 
-pub use meaning::frames_have_meaning;
+pub use meaning::{reports_grow, reports_have_meaning};
 pub use receiver::Receiver;
 pub use report::{Report, What};
 pub use setup::{ChannelSetup, Serial};

@@ -1,4 +1,5 @@
 //! What a receiver answers.
+ghost use Rattle.std.specs.Prelude.{◌≡◌};
 
 use line_base::Rule;
 use sent_fast::Fast;
@@ -54,6 +55,10 @@ pub struct Report {
 }
 
 impl Default for Report {
+    ghost use Rattle.receiver_core.specs.declared.report.What.TheVariants as What;
+
+    ghost is_default = { λ report. report ≡ record { place = 0; what = What.Gap 0 } };
+
     /// A gap of no edges at place 0. It says nothing, and stands in the unused places of a list of reports.
     fn default() -> Report {
         Report {

@@ -1,7 +1,7 @@
 -- Each report of a list of pulses means something in these pulses.
 --     reports_mean        the reports of a list of pulses, each in these pulses
 --     later_mean          what holds of each report of a list holds of each of the last ones
-use Rattle.std.proofs.Common.{◌≡◌, ℕ, zero, suc, List, [], ◌∷◌, ◌++◌, Bool, true, false, not, ◌==◌, cond, if◌then◌else◌, length, take, drop, slice_index, refl, ap, sym, ◌∙◌, subst, append_assoc, append-nil, arith}
+use Rattle.std.proofs.Common.{◌≡◌, ℕ, zero, suc, List, [], ◌∷◌, ◌++◌, Bool, true, false, not, ◌&&◌, inl, inr, ◌==◌, cond, if◌then◌else◌, length, take, drop, slice_index, refl, ap, sym, ◌∙◌, subst, append_assoc, append-nil, arith}
 use Rattle.std.proofs.lemmas.Bool.{and_parts, eqb-false, eqb-true, not-true}
 use Rattle.std.proofs.lemmas.List.{drop_at, take-append-drop}
 use Rattle.std.proofs.lemmas.List.Elements.{All-drop, All-from_recursion, All-same}
@@ -13,7 +13,7 @@ use Rattle.sent_frame.specs.declared.frame.SentStep.TheVariants.{Good, Bad}
 use Rattle.sent_frame.specs.Setup.{Settings}
 use Rattle.sent_frame.specs.Pulses.{Pulse}
 use Rattle.sent_frame.specs.Reading.{Standing, Hunting, PauseDue, CalibrationDue, Values, Carried, Broken, Short, Found, Passed, Waiting, Reported, crc_of, may_calibrate, place_at, frame_of, frame_from, hunted, found, has_drifted, go_on, reports_past, reports_of}
-use Rattle.sent_frame.specs.Frames.{IsSent, EndsInFrame, EndsInPause, HasDrift, Means}
+use Rattle.sent_frame.specs.Frames.{BeginsFrame, IsSent, EndsInFrame, EndsInPause, HasDrift, Means}
 use Rattle.sent_frame.proofs.CarriedValues.{IsCarried, ValuesMean, values_mean, is_sent}
 
 -- ---- how far the reading has come
@@ -87,10 +87,10 @@ checked_means s pulses before calibration rest status values false stands calibr
 }
 
 frame_means : (s : Settings) (pulses before : List Pulse) (calibration : Pulse) (rest : List Pulse) (values : Values)
-    → pulses ≡ before ++ calibration ∷ rest → may_calibrate s calibration ≡ true → ValuesMean calibration.length (suc (suc s.nibbles)) rest values
+    → pulses ≡ before ++ calibration ∷ rest → may_calibrate s calibration ≡ true → BeginsFrame s before calibration rest → ValuesMean calibration.length (suc (suc s.nibbles)) rest values
     → FoundMeans s pulses rest (frame_of s calibration.length rest values)
-frame_means s pulses before calibration rest (Carried []) stands calibrates mean = absurd (omega (arith, mean.as_many))
-frame_means s pulses before calibration rest (Carried (status ∷ values)) stands calibrates mean =
+frame_means s pulses before calibration rest (Carried []) stands calibrates begins mean = absurd (omega (arith, mean.as_many))
+frame_means s pulses before calibration rest (Carried (status ∷ values)) stands calibrates begins mean =
     let frame : EndsInFrame s ((before ++ calibration ∷ []) ++ take (suc (suc s.nibbles)) rest) calibration.length = record {
       before = before;
       calibration = calibration;
@@ -109,7 +109,7 @@ frame_means s pulses before calibration rest (Carried (status ∷ values)) stand
         knows = due_by s calibration.length _ s.pause refl frame;
       },
     )
-frame_means s pulses before calibration rest (Broken used broken) stands calibrates mean = (
+frame_means s pulses before calibration rest (Broken used broken) stands calibrates begins mean = (
   record {
     before = before;
     calibration = calibration;
@@ -118,6 +118,7 @@ frame_means s pulses before calibration rest (Broken used broken) stands calibra
     after = mean.after;
     stands = stands ∙ ap (λ all. before ++ calibration ∷ all) mean.stands;
     calibrates = calibrates;
+    begins = subst (λ (behind : List Pulse). BeginsFrame s before calibration behind) mean.stands begins;
     too_few = mean.too_few;
     values = mean.values;
     carried = mean.carried;
@@ -130,16 +131,16 @@ frame_means s pulses before calibration rest (Broken used broken) stands calibra
     knows = tt;
   },
 )
-frame_means s pulses before calibration rest Short stands calibrates mean = tt
+frame_means s pulses before calibration rest Short stands calibrates begins mean = tt
 
 -- ---- what stands at the front, by what is due
 hunted_means : (s : Settings) (pulses before : List Pulse) (pulse : Pulse) (rest : List Pulse) → pulses ≡ before ++ pulse ∷ rest → may_calibrate s pulse ≡ true → FoundMeans s pulses rest (hunted s pulse rest)
 hunted_means s pulses before pulse [] stands calibrates = tt
-hunted_means s pulses before pulse (next ∷ rest) stands calibrates = by_next (may_calibrate s next)
+hunted_means s pulses before pulse (next ∷ rest) stands calibrates = by_next (may_calibrate s next) refl
   where
-    by_next : (test : Bool) → FoundMeans s pulses (next ∷ rest) (cond test (Passed Hunting) (frame_from s pulse.length (next ∷ rest)))
-    by_next true = next_is s pulses before Hunting pulse (next ∷ rest) stands tt
-    by_next false = frame_means s pulses before pulse (next ∷ rest) _ stands calibrates (values_mean pulse.length (suc (suc s.nibbles)) (next ∷ rest))
+    by_next : (test : Bool) → may_calibrate s next ≡ test → FoundMeans s pulses (next ∷ rest) (cond test (Passed Hunting) (frame_from s pulse.length (next ∷ rest)))
+    by_next true again = next_is s pulses before Hunting pulse (next ∷ rest) stands tt
+    by_next false never = frame_means s pulses before pulse (next ∷ rest) _ stands calibrates (inl never) (values_mean pulse.length (suc (suc s.nibbles)) (next ∷ rest))
 
 hunting_means : (s : Settings) (pulses before : List Pulse) (pulse : Pulse) (rest : List Pulse) → pulses ≡ before ++ pulse ∷ rest → FoundMeans s pulses rest (found s Hunting pulse rest)
 unfolding found
@@ -177,12 +178,22 @@ pause_means s pulses before c pulse rest stands due frame = by_test (is_pause pu
       next_is s pulses before Hunting pulse rest stands tt,
     )
 
-calibration_means : (s : Settings) (pulses before : List Pulse) (c : ℕ) (pulse : Pulse) (rest : List Pulse) → pulses ≡ before ++ pulse ∷ rest → EndsInPause s before c → FoundMeans s pulses rest (found s (CalibrationDue c) pulse rest)
+-- a pulse that may calibrate, where one is due, and hasn't drifted, is steady
+is_steady_where : (calibrates steady : Bool) → calibrates ≡ true → (calibrates && not steady) ≡ false → steady ≡ true
+is_steady_where true true calibrates no_drift = refl
+is_steady_where true false calibrates no_drift = absurd (cc)
+is_steady_where false steady calibrates no_drift = absurd (cc)
+
+calibration_means : (s : Settings) (pulses before : List Pulse) (c : ℕ) (pulse : Pulse) (rest : List Pulse) → pulses ≡ before ++ pulse ∷ rest → EndsInPause s before c → has_drifted s (CalibrationDue c) pulse ≡ false
+    → FoundMeans s pulses rest (found s (CalibrationDue c) pulse rest)
 unfolding found
-calibration_means s pulses before c pulse rest stands frame = by_test (may_calibrate s pulse) refl
+calibration_means s pulses before c pulse rest stands frame no_drift = by_test (may_calibrate s pulse) refl
   where
     by_test : (test : Bool) → may_calibrate s pulse ≡ test → FoundMeans s pulses rest (cond test (frame_from s pulse.length rest) (Reported (Bad pulse.place rule.NoCalibration) 0 Hunting))
-    by_test true calibrates = frame_means s pulses before pulse rest _ stands calibrates (values_mean pulse.length (suc (suc s.nibbles)) rest)
+    by_test true calibrates =
+        frame_means s pulses before pulse rest _ stands calibrates
+        (inr (record { length = c; frame = frame; steady = is_steady_where (may_calibrate s pulse) (is_steady c pulse.length) calibrates no_drift }))
+        (values_mean pulse.length (suc (suc s.nibbles)) rest)
     by_test false none = (
       record {
         before = before;
@@ -197,10 +208,11 @@ calibration_means s pulses before c pulse rest stands frame = by_test (may_calib
       next_is s pulses before Hunting pulse rest stands tt,
     )
 
-found_means : (s : Settings) (pulses before : List Pulse) (standing : Standing) (pulse : Pulse) (rest : List Pulse) → pulses ≡ before ++ pulse ∷ rest → Knows s standing before → FoundMeans s pulses rest (found s standing pulse rest)
-found_means s pulses before Hunting pulse rest stands knows = hunting_means s pulses before pulse rest stands
-found_means s pulses before (PauseDue c) pulse rest stands knows = pause_means s pulses before c pulse rest stands knows.0 knows.1
-found_means s pulses before (CalibrationDue c) pulse rest stands knows = calibration_means s pulses before c pulse rest stands knows
+found_means : (s : Settings) (pulses before : List Pulse) (standing : Standing) (pulse : Pulse) (rest : List Pulse) → pulses ≡ before ++ pulse ∷ rest → Knows s standing before → has_drifted s standing pulse ≡ false
+    → FoundMeans s pulses rest (found s standing pulse rest)
+found_means s pulses before Hunting pulse rest stands knows no_drift = hunting_means s pulses before pulse rest stands
+found_means s pulses before (PauseDue c) pulse rest stands knows no_drift = pause_means s pulses before c pulse rest stands knows.0 knows.1
+found_means s pulses before (CalibrationDue c) pulse rest stands knows no_drift = calibration_means s pulses before c pulse rest stands knows no_drift
 
 drift_means : (s : Settings) (pulses before : List Pulse) (standing : Standing) (pulse : Pulse) (rest : List Pulse) → pulses ≡ before ++ pulse ∷ rest → Knows s standing before → has_drifted s standing pulse ≡ true → HasDrift s pulses pulse.place
 drift_means s pulses before Hunting pulse rest stands knows drifted = absurd (cc)
@@ -231,7 +243,7 @@ pulse_means : (s : Settings) (pulses before : List Pulse) (standing : Standing) 
     → AllByRecursion (Means s pulses) (cond test (Bad pulse.place rule.Drift ∷ go_on (found s Hunting pulse rest) (λ used standing. reports_past s used standing rest)) (go_on (found s standing pulse rest) (λ used standing. reports_past s used standing rest)))
 pulse_means s pulses before standing pulse rest true drifted stands knows later =
     (drift_means s pulses before standing pulse rest stands knows drifted, goes_on s pulses rest (found s Hunting pulse rest) (hunting_means s pulses before pulse rest stands) later)
-pulse_means s pulses before standing pulse rest false steady stands knows later = goes_on s pulses rest (found s standing pulse rest) (found_means s pulses before standing pulse rest stands knows) later
+pulse_means s pulses before standing pulse rest false no_drift stands knows later = goes_on s pulses rest (found s standing pulse rest) (found_means s pulses before standing pulse rest stands knows no_drift) later
 
 rest_means : (s : Settings) (pulses : List Pulse) (rest : List Pulse) → AllMean s pulses rest
 unfolding reports_past

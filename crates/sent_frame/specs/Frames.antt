@@ -1,5 +1,5 @@
 -- What each report of a SENT reading stands for, in the pulses themselves (the frame: SAE J2716).
-use Rattle.std.specs.Prelude.{◌≡◌, ◌≢◌, ℕ, suc, ◌+◌, ◌*◌, ◌<◌, List, [], ◌∷◌, ◌++◌, true, false, length, map, if◌then◌else◌}
+use Rattle.std.specs.Prelude.{◌≡◌, ◌≢◌, ℕ, suc, ◌+◌, ◌*◌, ◌<◌, ◌⊎◌, List, [], ◌∷◌, ◌++◌, true, false, length, map, if◌then◌else◌}
 use Rattle.line_base.specs.declared.rule.Rule.{Rule}
 use Rattle.line_base.specs.declared.rule.Rule.TheVariants as rule
 use Rattle.link_math.specs.Sent.{Carries, is_steady, is_pause}
@@ -49,21 +49,6 @@ pub record HasWrongCheck (s : Settings) (pulses : List Pulse) (place : ℕ) : Ty
   pub sent : IsSent s calibration others frame crc place
   pub wrong : crc ≢ crc_of s.crc frame.nibbles
 
--- somewhere in the pulses a frame has begun, fewer pulses than it needs carry a value, and the next, which ends at this place, carries none
-pub record HasBrokenFrame (s : Settings) (pulses : List Pulse) (place : ℕ) : Type 0 where
-  pub before : List Pulse
-  pub calibration : Pulse
-  pub others : List Pulse
-  pub broken : Pulse
-  pub after : List Pulse
-  pub stands : pulses ≡ before ++ (calibration ∷ (others ++ broken ∷ after))
-  pub calibrates : may_calibrate s calibration ≡ true
-  pub too_few : length others < suc (suc s.nibbles)
-  pub values : List ℕ
-  pub carried : AreCarried calibration.length others values
-  pub none : (value : ℕ) → Carries broken.length calibration.length value → ⊥
-  pub ends : broken.place ≡ place
-
 -- the last of these pulses are a frame whose pulses all carry a value, after a calibration pulse of this length in ns
 pub record EndsInFrame (s : Settings) (pulses : List Pulse) (length : ℕ) : Type 0 where
   pub before : List Pulse
@@ -84,6 +69,37 @@ pub record EndsInPause (s : Settings) (pulses : List Pulse) (length : ℕ) : Typ
   pub frame : EndsInFrame s before length
   pub as_many : (if s.pause then 1 else 0) ≡ Rattle.std.specs.Prelude.length pauses
   pub fits : (pause : Pulse) → pauses ≡ pause ∷ [] → is_pause pause.length length ≡ true
+
+-- these pulses end in a frame and, where the setup has one, its pause, so a calibration pulse is due; and this one is steady with that frame's
+pub record IsDueAndSteady (s : Settings) (before : List Pulse) (calibration : Pulse) : Type 0 where
+  pub length : ℕ
+  pub frame : EndsInPause s before length
+  pub steady : is_steady length calibration.length ≡ true
+
+-- the first of these pulses is there, and can't be a calibration pulse
+abbrev pub FirstCannotCalibrate : Settings → List Pulse → Type 0
+FirstCannotCalibrate s [] = ⊥
+FirstCannotCalibrate s (next ∷ others) = may_calibrate s next ≡ false
+
+-- a frame begins at this calibration pulse, between the pulses before it and those behind: the next pulse can't be one itself, or one is due here and this one is steady
+abbrev pub BeginsFrame : Settings → List Pulse → Pulse → List Pulse → Type 0
+BeginsFrame s before calibration behind = FirstCannotCalibrate s behind ⊎ IsDueAndSteady s before calibration
+
+-- somewhere in the pulses a frame has begun, fewer pulses than it needs carry a value, and the next, which ends at this place, carries none
+pub record HasBrokenFrame (s : Settings) (pulses : List Pulse) (place : ℕ) : Type 0 where
+  pub before : List Pulse
+  pub calibration : Pulse
+  pub others : List Pulse
+  pub broken : Pulse
+  pub after : List Pulse
+  pub stands : pulses ≡ before ++ (calibration ∷ (others ++ broken ∷ after))
+  pub calibrates : may_calibrate s calibration ≡ true
+  pub begins : BeginsFrame s before calibration (others ++ broken ∷ after)
+  pub too_few : length others < suc (suc s.nibbles)
+  pub values : List ℕ
+  pub carried : AreCarried calibration.length others values
+  pub none : (value : ℕ) → Carries broken.length calibration.length value → ⊥
+  pub ends : broken.place ≡ place
 
 -- somewhere in the pulses a pause is due after a frame, and the pulse at this place doesn't fit
 pub record HasBadPause (s : Settings) (pulses : List Pulse) (place : ℕ) : Type 0 where

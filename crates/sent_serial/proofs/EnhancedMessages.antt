@@ -17,8 +17,8 @@ use Rattle.link_math.proofs.BitFields.{number_of-append, number_of-field}
 use Rattle.link_math.proofs.BitLists.{bits_of-mod, bits_of-number_of}
 use Rattle.sent_serial.specs.declared.step.SerialStep.{SerialStep}
 use Rattle.sent_serial.specs.declared.step.SerialStep.TheVariants.{Enhanced, Bad}
-use Rattle.sent_serial.specs.Statuses.{merged, start_bit, value_bit}
-use Rattle.sent_serial.specs.Enhanced.{checked_bits, enhanced_content, enhanced_message, start_bits, value_bits}
+use Rattle.sent_serial.specs.Statuses.{merged, start_bit, start_bits, value_bit, value_bits}
+use Rattle.sent_serial.specs.Enhanced.{checked_bits, enhanced_content, enhanced_message}
 use Rattle.sent_serial.specs.Messages.{HasBits}
 use Rattle.sent_serial.proofs.KeptBits.{length-map}
 

@@ -10,4 +10,7 @@ pub mod SentMessages
 pub mod ShortSteps
 pub mod ShortLeads
 pub mod ShortMessages
-pub mod StepRules
+pub mod Growth
+pub mod FrameRanges
+pub mod ShortMeanings
+pub mod EnhancedMeanings

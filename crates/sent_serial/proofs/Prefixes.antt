@@ -1,5 +1,6 @@
 -- What was answered stays when more statuses come.
 --     short-none, enhanced-none      nothing is read from no status
+--     short-stays, enhanced-stays      what is found stays, unless it waits
 --     short-front, enhanced-front      the steps of some statuses are a front of those of these and more
 use Rattle.std.proofs.Common.{◌≡◌, ◌⊎◌, inl, inr, ℕ, zero, suc, ◌<◌, ◌≤◌, List, [], ◌∷◌, ◌++◌, Bool, true, false, map, take, length, length-append, sym, ap, ◌∙◌, arith}
 use Rattle.std.specs.Prelude.{slice_index}
@@ -21,7 +22,7 @@ use Rattle.sent_serial.proofs.ShortSteps.{found-message, found-restart, found-sk
 use Rattle.sent_serial.proofs.StartBits.{clear-append, clear-stays, clear_before-le, set-append, set-stays, set_before-le}
 
 -- unless something waits, more statuses change nothing that is found
-abbrev Stays : Found → Found → Type 0
+abbrev pub Stays : Found → Found → Type 0
 Stays f g = (f ≡ Waiting) ⊎ (g ≡ f)
 
 -- two that are found alike
@@ -43,7 +44,7 @@ gone_on f g later more (inl waits) h = rw waits (IsFrontOf-nil (go_on g more))
 gone_on f g later more (inr same) h = rw same (same_found f later more h)
 
 -- more statuses change nothing that is found
-abbrev AllStay : (ℕ → List ℕ → Found) → Type 0
+abbrev pub AllStay : (ℕ → List ℕ → Found) → Type 0
 AllStay found = (status : ℕ) (later more : List ℕ) → Stays (found status later) (found status (later ++ more))
 
 steps-front : (found : ℕ → List ℕ → Found) → AllStay found → (skip : ℕ) (statuses more : List ℕ) → IsFrontOf (steps_past found skip statuses) (steps_past found skip (statuses ++ more))
@@ -79,7 +80,8 @@ all_are_clear status later more starts all =
       | inr enough ↦ message-stays status later more starts (omega arith) (omega (arith, clear-append later more all))
     ]
 
-short-stays : AllStay short_found
+-- no finding of the short messages changes
+pub short-stays : AllStay short_found
 short-stays status later more =
     elim (cases_Bool (start_bit status)) [
       | inl starts ↦
@@ -163,7 +165,8 @@ front-stays statuses more =
       | inr all ↦ all_are_set statuses more (omega (arith, set_before-le statuses))
     ]
 
-enhanced-stays : AllStay enhanced_found
+-- nor of the enhanced ones
+pub enhanced-stays : AllStay enhanced_found
 unfolding enhanced_found
 enhanced-stays status later more = front-stays (status ∷ later) more
 

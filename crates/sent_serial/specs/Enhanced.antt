@@ -1,25 +1,13 @@
 -- Enhanced serial messages (SAE J2716): eighteen frames, the first six with their start bits set and the seventh clear. Over which bits the CRC runs, and in which order, is this project's own.
-use Rattle.std.specs.Prelude.{ℕ, Bool, true, false, ◌-◌, nat_eq, nat_le, nat_lt, List, [], ◌∷◌, ◌++◌, length, take, drop, map, flat_map, slice_index, if◌then◌else◌}
+use Rattle.std.specs.Prelude.{ℕ, Bool, true, false, nat_eq, nat_le, nat_lt, List, [], ◌∷◌, ◌++◌, length, take, flat_map, slice_index, if◌then◌else◌}
 use Rattle.line_base.specs.declared.rule.Rule.TheVariants.{Zero13, Zero18, SerialCheck}
 use Rattle.link_math.specs.Division.{number_of}
 use Rattle.link_math.specs.Checks.{crc6_of}
 use Rattle.sent_serial.specs.declared.step.SerialStep.{SerialStep}
 use Rattle.sent_serial.specs.declared.step.SerialStep.TheVariants as step
-use Rattle.sent_serial.specs.Statuses.{start_bit, value_bit, set_before}
+use Rattle.sent_serial.specs.Statuses.{start_bit, value_bit, frames_from, start_bits, value_bits, set_before}
 use Rattle.sent_serial.specs.Readings.{Found, steps_past}
 use Rattle.sent_serial.specs.Readings.Found.{Skipped, Waiting, Ended}
-
--- so many statuses, from frame number `first` on, counted from 1
-abbrev pub frames_from : ℕ → ℕ → List ℕ → List ℕ
-frames_from first count statuses = take count (drop (first - 1) statuses)
-
--- the value bits of so many statuses, from frame number `first` on
-abbrev pub value_bits : ℕ → ℕ → List ℕ → List Bool
-value_bits first count statuses = map value_bit (frames_from first count statuses)
-
--- the start bits of so many statuses, from frame number `first` on
-abbrev pub start_bits : ℕ → ℕ → List ℕ → List Bool
-start_bits first count statuses = map start_bit (frames_from first count statuses)
 
 -- the bits that the CRC of a message runs over: the value bit and then the start bit of each frame from 7 to 18
 abbrev pub checked_bits : List ℕ → List Bool

@@ -4,4 +4,5 @@ pub mod Short
 pub mod Enhanced
 pub mod Kept
 pub mod Messages
+pub mod Meanings
 pub mod Readers

@@ -1,7 +1,5 @@
 -- How a list of statuses is read from its front; this project's own.
 use Rattle.std.specs.Prelude.{ℕ, zero, suc, List, [], ◌∷◌}
-use Rattle.line_base.specs.declared.rule.Rule.{Rule}
-use Rattle.line_base.specs.declared.rule.Rule.TheVariants as rule
 use Rattle.sent_serial.specs.declared.step.SerialStep.{SerialStep}
 use Rattle.sent_serial.specs.declared.step.SerialStep.TheVariants.{Nothing, Short, Enhanced, Bad}
 
@@ -29,16 +27,3 @@ steps_of Nothing = []
 steps_of (Short id value) = Short id value ∷ []
 steps_of (Enhanced id value wide) = Enhanced id value wide ∷ []
 steps_of (Bad rule) = Bad rule ∷ []
-
--- the rule is one of serial messages
-abbrev pub IsSerialRule : Rule → Type 0
-IsSerialRule rule.Restart = Unit {0}
-IsSerialRule rule.Zero13 = Unit {0}
-IsSerialRule rule.Zero18 = Unit {0}
-IsSerialRule rule.SerialCheck = Unit {0}
-IsSerialRule _ = ⊥
-
--- a step that breaks no other rule than those of serial messages
-abbrev pub IsSerialStep : SerialStep → Type 0
-IsSerialStep (Bad broken) = IsSerialRule broken
-IsSerialStep _ = Unit {0}

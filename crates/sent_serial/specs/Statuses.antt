@@ -1,5 +1,5 @@
 -- The two bits of a frame's status nibble that carry serial messages (SAE J2716).
-use Rattle.std.specs.Prelude.{◌≡◌, ℕ, suc, ◌<◌, ◌/◌, ◌%◌, Bool, nat_eq, List, [], ◌∷◌, if◌then◌else◌}
+use Rattle.std.specs.Prelude.{◌≡◌, ℕ, suc, ◌<◌, ◌-◌, ◌/◌, ◌%◌, Bool, nat_eq, List, [], ◌∷◌, take, drop, map, if◌then◌else◌}
 
 -- bit 3 of a status nibble, the start bit
 abbrev pub start_bit : ℕ → Bool
@@ -13,6 +13,18 @@ value_bit status = nat_eq (status / 4 % 2) 1
 pub record HasTwoBits (status : ℕ) : Type 0 where
   pub is_nibble : status < 16
   pub no_other : status % 4 ≡ 0
+
+-- so many statuses, from frame number `first` on, counted from 1
+abbrev pub frames_from : ℕ → ℕ → List ℕ → List ℕ
+frames_from first count statuses = take count (drop (first - 1) statuses)
+
+-- the value bits of so many statuses, from frame number `first` on
+abbrev pub value_bits : ℕ → ℕ → List ℕ → List Bool
+value_bits first count statuses = map value_bit (frames_from first count statuses)
+
+-- the start bits of so many statuses, from frame number `first` on
+abbrev pub start_bits : ℕ → ℕ → List ℕ → List Bool
+start_bits first count statuses = map start_bit (frames_from first count statuses)
 
 -- how many statuses whose start bit is clear stand before the first whose start bit is set
 unfoldable pub clear_before : List ℕ → ℕ

@@ -10,6 +10,7 @@
 
 mod encoders;
 mod enhanced;
+mod meaning;
 mod short;
 mod status;
 mod step;
@@ -18,5 +19,6 @@ mod tests;
 
 pub use encoders::{enhanced_bits, short_bits};
 pub use enhanced::EnhancedReader;
+pub use meaning::steps_have_meaning;
 pub use short::ShortReader;
 pub use step::SerialStep;
