@@ -2,6 +2,8 @@ pub mod BitFields
 pub mod BitLists
 pub mod CheckRegister
 pub mod CheckTable
+pub mod FrameRegister
 pub mod Nibbles
+pub mod Registers
 pub mod Remainders
 pub mod Thresholds

@@ -1,3 +1,4 @@
 pub mod Checks
 pub mod Division
+pub mod Manchester
 pub mod Sent

@@ -71,3 +71,50 @@ fn the_crc_of_a_serial_message_is_that_of_the_worked_vectors(rt: HostRuntime) {
         assert_eq!(rt; crc6(&bits_of_words(words)), expected, "{words:?}");
     }
 }
+
+#[test]
+fn an_interval_is_to_the_nearest_half_bit_and_quiet_from_five_quarters_of_a_bit_on(
+    rt: HostRuntime,
+) {
+    let cases: [(u32, u32, Halves); 14] = [
+        (0, 8_000, Halves::Short),
+        (1_999, 8_000, Halves::Short),
+        (2_000, 8_000, Halves::One),
+        (5_999, 8_000, Halves::One),
+        (6_000, 8_000, Halves::Two),
+        (9_999, 8_000, Halves::Two),
+        (10_000, 8_000, Halves::Quiet),
+        (0, 5_300, Halves::Short),
+        (1_324, 5_300, Halves::Short),
+        (1_325, 5_300, Halves::One),
+        (3_974, 5_300, Halves::One),
+        (3_975, 5_300, Halves::Two),
+        (6_624, 5_300, Halves::Two),
+        (6_625, 5_300, Halves::Quiet),
+    ];
+    for (interval, bit, expected) in cases {
+        let found = halves_of(u64::from(interval), bit);
+        assert_eq!(rt; found, expected, "{interval} ns at {bit} ns");
+    }
+    assert_eq!(rt; halves_of(MAX_TIME, 8_000), Halves::Quiet);
+}
+
+#[test]
+fn the_crc_and_the_parity_of_a_psi5_frame_are_those_of_the_worked_vectors(rt: HostRuntime) {
+    let cases: [(&[bool], u8, bool); 4] = [
+        (&[], 0b010, false),
+        (&[false; 10], 0b110, false),
+        (
+            &[
+                true, true, true, false, false, true, true, true, true, false,
+            ],
+            0b001,
+            true,
+        ),
+        (&[false, true, true, false, true, false], 0b011, true),
+    ];
+    for (bits, check, odd) in cases {
+        assert_eq!(rt; crc3(bits), check, "{bits:?}");
+        assert_eq!(rt; parity(bits), odd, "{bits:?}");
+    }
+}

@@ -1,0 +1,16 @@
+pub mod Encoding
+pub mod FrameLaws
+pub mod Framed
+pub mod Growing
+pub mod Judged
+pub mod KeptBits
+pub mod Leading
+pub mod Meanings
+pub mod Numbers
+pub mod Payloads
+pub mod Prefixes
+pub mod Runs
+pub mod Standing
+pub mod Violations
+pub mod Walks
+pub mod Waveforms

@@ -1,0 +1,10 @@
+pub mod Setup
+pub mod Intervals
+pub mod Edges
+pub mod Frames
+pub mod Bursts
+pub mod Waveforms
+pub mod Bits
+pub mod Meanings
+pub mod Kept
+pub mod Readers

@@ -1,0 +1,5 @@
+pub mod PhaseCodes
+pub mod PhaseSteps
+pub mod Standing
+pub mod Stays
+pub mod Telling
