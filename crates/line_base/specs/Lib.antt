@@ -3,6 +3,7 @@ pub mod Streams
 pub mod Memory
 pub mod Adapters
 pub mod Rules
+pub mod Faults
 pub mod Reasons
 pub mod Nibbles
 pub mod Orderly

@@ -71,6 +71,16 @@ fn rules_are_numbered_1_to_28(rt: HostRuntime) {
 }
 
 #[test]
+fn each_kind_of_fault_has_its_own_numbers(rt: HostRuntime) {
+    assert_eq!(rt; WordFault::Missing.number(), 1);
+    assert_eq!(rt; WordFault::NotBuilt.number(), 10);
+    assert_eq!(rt; LineFault::Order.number(), 9);
+    assert_eq!(rt; LineFault::Version.number(), 11, "10 isn't used again");
+    assert_eq!(rt; SetupFault::Tick.number(), 1);
+    assert_eq!(rt; SetupFault::Lines.number(), 14);
+}
+
+#[test]
 fn each_reason_has_its_status(rt: HostRuntime) {
     let words = Reason::Words {
         place: 1,
@@ -125,7 +135,6 @@ fn a_fault_of_a_line_is_printed_by_its_name(rt: HostRuntime) -> Result<(), Fail>
         (LineFault::LineTooLong, "LineTooLong"),
         (LineFault::InputTooLong, "InputTooLong"),
         (LineFault::Order, "Order"),
-        (LineFault::NotBuilt, "NotBuilt"),
         (LineFault::Version, "Version"),
     ] {
         assert_eq!(rt; fault.to_string(rt.alloc())?.as_str(), name);
@@ -225,4 +234,84 @@ fn a_put_goes_on_to_its_last_byte_or_a_fault(rt: HostRuntime) {
     assert_eq!(rt; put(&mut sink, &[4, 5, 6]), Err(Failed), "write 5 fails");
     assert_eq!(rt; put(&mut sink, &[7, 0, 8]), Err(Failed), "a 0 isn't taken");
     assert_eq!(rt; (device.calls, device.last), (7, 7));
+}
+
+// A device of std that moves all it is asked for, but for one call that is interrupted, counted from 1. It
+// keeps how many bytes the last call was for.
+#[derive(Drop)]
+struct Whole {
+    calls: u64,
+    interrupted: u64,
+    asked: usize,
+}
+
+impl Whole {
+    fn call(&mut self, asked: usize) -> io::Result<()> {
+        self.calls = self.calls.saturating_add(1);
+        self.asked = asked;
+        if self.calls == self.interrupted {
+            return Err(io::Error::from(ErrorKind::Interrupted));
+        }
+        Ok(())
+    }
+}
+
+impl Read for Whole {
+    fn read(&mut self, buf: &mut [u8]) -> io::Result<usize> {
+        self.call(buf.len())?;
+        Ok(buf.len())
+    }
+}
+
+impl Write for Whole {
+    fn write(&mut self, buf: &[u8]) -> io::Result<usize> {
+        self.call(buf.len())?;
+        Ok(buf.len())
+    }
+
+    fn flush(&mut self) -> io::Result<()> {
+        Ok(())
+    }
+}
+
+#[test]
+fn a_pull_asks_once_for_as_many_bytes_as_fit(rt: HostRuntime) {
+    let mut device = Whole {
+        calls: 0,
+        interrupted: 2,
+        asked: 0,
+    };
+    let mut source = StdSource::new(&mut device);
+    let mut buf = [0; 5];
+    assert_eq!(rt; pull(&mut source, &mut buf), Ok(5));
+    assert_eq!(rt;
+        pull(&mut source, &mut buf),
+        Err(Failed),
+        "an interrupted read is a fault"
+    );
+    assert_eq!(rt; pull(&mut source, &mut buf[..3]), Ok(3));
+    assert_eq!(rt; (device.calls, device.asked), (3, 3));
+}
+
+#[test]
+fn a_put_hands_over_all_its_bytes_at_once(rt: HostRuntime) {
+    let mut device = Whole {
+        calls: 0,
+        interrupted: 2,
+        asked: 0,
+    };
+    let mut sink = StdSink::new(&mut device);
+    assert_eq!(rt; put(&mut sink, &[1, 2, 3]), Ok(()));
+    assert_eq!(rt;
+        put(&mut sink, &[4, 5]),
+        Err(Failed),
+        "an interrupted write is a fault"
+    );
+    assert_eq!(rt; put(&mut sink, &[6, 7, 8, 9]), Ok(()));
+    assert_eq!(rt;
+        put(&mut sink, &[]),
+        Ok(()),
+        "nothing is written of no bytes"
+    );
+    assert_eq!(rt; (device.calls, device.asked), (3, 4));
 }
