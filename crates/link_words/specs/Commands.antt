@@ -1,38 +1,67 @@
 -- Which words of the command line are accepted; this project's own.
-use Rattle.std.specs.Prelude.{ℕ, Result, Ok, Err, List, [], ◌∷◌, if◌then◌else◌, codes}
+use Rattle.std.specs.Prelude.{ℕ, ◌+◌, nat_le, Bool, true, false, Result, Ok, Err, List, [], ◌∷◌, length, take, if◌then◌else◌, codes}
 use Rattle.std.specs.Str.{bytes_eq}
+use Rattle.std.specs.List.{list_any}
 use Rattle.line_base.specs.declared.faults.WordFault.{WordFault}
 use Rattle.line_base.specs.declared.faults.WordFault.TheVariants as fault
 use Rattle.receiver_core.specs.declared.setup.ChannelSetup.{ChannelSetup}
 use Rattle.link_words.specs.declared.command.Command.{Command}
-use Rattle.link_words.specs.declared.command.Command.TheVariants.{Decode}
+use Rattle.link_words.specs.declared.command.Command.TheVariants.{Decode, Check}
 use Rattle.link_words.specs.declared.command.WordsFault.{WordsFault}
-use Rattle.link_words.specs.Specs.{is_among, spec_read}
+use Rattle.link_words.specs.Specs.{spec_read}
+use Rattle.link_words.specs.Steps.{◌>>=◌, check}
 
--- the first refused word, by its number from 1
-abbrev pub refused : ℕ → WordFault → Result Command WordsFault
-refused place fault = Err (record { place = place; fault = fault })
+-- the fault of a word, told by the word's number from 1
+abbrev pub fault_at : ℕ → WordFault → WordsFault
+fault_at place fault = record { place = place; fault = fault }
 
--- the fault of a first word other than `decode`: NotBuilt for a command that isn't built yet, and Command for what is no command
+-- a refused word
+abbrev pub refused : {A : Type 0} → ℕ → WordFault → Result A WordsFault
+refused place fault = Err (fault_at place fault)
+
+-- what was read of the word of this number
+abbrev pub told_at : {A : Type 0} → ℕ → Result A WordFault → Result A WordsFault
+told_at place (Ok x) = Ok x
+told_at place (Err fault) = refused place fault
+
+-- the setup that a SPEC, the word of this number, names
+abbrev pub spec_at : ℕ → List ℕ → Result ChannelSetup WordsFault
+spec_at place spec = told_at place (spec_read spec)
+
+-- the setups that SPECs name, of which the first is the word of this number; the first fault from the left
+unfoldable pub specs_at : ℕ → List (List ℕ) → Result (List ChannelSetup) WordsFault
+specs_at place [] = Ok []
+specs_at place (spec ∷ specs) = do
+  setup ← spec_at place spec
+  setups ← specs_at (place + 1) specs
+  Ok (setup ∷ setups)
+
+-- the setups that the words behind the command name: 1 to 16 SPECs from word 2 on; the seventeenth is refused unread, behind sixteen good ones
+unfoldable pub setups_read : List (List ℕ) → Result (List ChannelSetup) WordsFault
+setups_read words = do
+  _ ← check (nat_le 1 (length words)) (fault_at 2 fault.Missing)
+  setups ← specs_at 2 (take 16 words)
+  _ ← check (nat_le (length words) 16) (fault_at 18 fault.Channels)
+  Ok setups
+
+-- the fault of a first word that is no command which is built: NotBuilt for a command that isn't built yet, and Command for what is no command
 unfoldable pub command_fault : List ℕ → WordFault
-command_fault command = if is_among (codes "check" ∷ codes "capture" ∷ codes "simulate" ∷ codes "loop" ∷ []) command then fault.NotBuilt else fault.Command
-
--- what a SPEC and the words behind it ask for: no word may stand behind it
-abbrev pub channel_asked : Result ChannelSetup WordFault → List (List ℕ) → Result Command WordsFault
-channel_asked (Err fault) words = refused 2 fault
-channel_asked (Ok setup) [] = Ok (Decode setup)
-channel_asked (Ok setup) (word ∷ words) = refused 3 fault.NotBuilt
-
--- what the words behind `decode` ask for: one SPEC
-abbrev pub decode_asked : List (List ℕ) → Result Command WordsFault
-decode_asked [] = refused 2 fault.Missing
-decode_asked (spec ∷ words) = channel_asked (spec_read spec) words
+command_fault command = if list_any (bytes_eq command) (codes "capture" ∷ codes "simulate" ∷ codes "loop" ∷ []) then fault.NotBuilt else fault.Command
 
 -- what the words ask for, or the first refused word
 unfoldable pub words_read : List (List ℕ) → Result Command WordsFault
 words_read [] = refused 1 fault.Missing
-words_read (command ∷ words) = if bytes_eq command (codes "decode") then decode_asked words else refused 1 (command_fault command)
+words_read (command ∷ words) =
+    if bytes_eq command (codes "decode") then (setups_read words >>= λ setups. Ok (Decode setups))
+    else (if bytes_eq command (codes "check") then (setups_read words >>= λ setups. Ok (Check setups))
+    else refused 1 (command_fault command))
 
--- the channel of a command
-abbrev pub channel_in : Command → ChannelSetup
-channel_in (Decode setup) = setup
+-- the channels of a command, numbered from 0 in the order of their SPECs
+abbrev pub setups_of_command : Command → List ChannelSetup
+setups_of_command (Decode setups) = setups
+setups_of_command (Check setups) = setups
+
+-- the command writes the lines of reports; else the totals alone
+abbrev pub tells_reports : Command → Bool
+tells_reports (Decode setups) = true
+tells_reports (Check setups) = false

@@ -1,4 +1,8 @@
+pub mod Setups
+pub mod Steps
+pub mod Values
 pub mod Settings
 pub mod Choices
+pub mod Sent
 pub mod Specs
 pub mod Commands

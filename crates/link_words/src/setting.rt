@@ -1,14 +1,16 @@
-//! The keys of a SENT channel, and what their values say.
-ghost use Rattle.std.specs.Prelude.{◌≡◌, ◌≤◌, IfSome};
-ghost use Rattle.std.specs.Str.{bytes_eq};
-ghost use Rattle.link_words.specs.Settings.{key_in, number_within, answer_in, crc_named, layout_named, serial_named, setting_in};
+//! The keys of SPECs, and what the pairs of one SPEC have set so far.
+ghost use Rattle.std.specs.Prelude.{◌≡◌, ◌<◌, List, [], ◌∷◌};
+ghost use Rattle.link_words.specs.Settings.{place_of, value_at, count_at, time_at, answer_at, crc_at, layout_at, serial_at};
 
-use edge_trace::number_of;
+use crate::value::{Value, Values};
 use receiver_core::Serial;
 use sent_fast::Layout;
 use sent_frame::CrcForm;
 
-/// What can be set of a SENT channel.
+/// How many keys there are.
+const KEYS: usize = 8;
+
+/// What can be set of a channel.
 #[derive(Clone, Copy)]
 pub(crate) enum Key {
     /// The line.
@@ -29,151 +31,132 @@ pub(crate) enum Key {
     Serial,
 }
 
+/// A key of a kind of channel, and what its value may be.
+#[derive(Clone, Copy)]
+pub(crate) struct Row {
+    /// The key.
+    pub key: Key,
+    /// What its value may be.
+    pub values: Values,
+}
+
 /// A key with its value.
 #[derive(Clone, Copy)]
-pub(crate) enum Setting {
-    /// The line, 0 to 15.
-    Line(u8),
-    /// The nominal tick in ns, 3,000 to 90,000.
-    Tick(u32),
-    /// The jitter of an edge in ns, 1 to 9,000.
-    Jitter(u32),
-    /// How many data nibbles a frame has, 1 to 6.
-    Nibbles(u8),
-    /// Whether a pause pulse follows each frame.
-    Pause(bool),
-    /// The form of the CRC.
-    Crc(CrcForm),
-    /// The layout of the data nibbles.
-    Layout(Layout),
-    /// Which serial messages the status nibbles carry.
-    Serial(Serial),
+pub(crate) struct Setting {
+    /// The key.
+    pub key: Key,
+    /// Its value.
+    pub value: Value,
 }
 
-/// Whether a text is this one.
-pub(crate) fn spells(text: &[u8], name: &[u8]) -> bool
-    ensures { result ≡ bytes_eq text.now name.now }
-{
-    text == name
-}
-
-/// The key that a text names.
-#[tactic(auto, unfolding(crate::specs::Settings::key_in))]
-pub(crate) fn key_of(text: &[u8]) -> Option<Key>
-    ensures { result ≡ key_in text.now }
-{
-    if spells(text, b"line") {
-        Some(Key::Line)
-    } else if spells(text, b"tick") {
-        Some(Key::Tick)
-    } else if spells(text, b"jitter") {
-        Some(Key::Jitter)
-    } else if spells(text, b"nibbles") {
-        Some(Key::Nibbles)
-    } else if spells(text, b"pause") {
-        Some(Key::Pause)
-    } else if spells(text, b"crc") {
-        Some(Key::Crc)
-    } else if spells(text, b"layout") {
-        Some(Key::Layout)
-    } else if spells(text, b"serial") {
-        Some(Key::Serial)
-    } else {
-        None
-    }
-}
-
-/// What a value says for its key, or `None` where it is outside its row.
-#[tactic(auto, unfolding(crate::specs::Settings::setting_in))]
-pub(crate) fn setting_of(key: Key, text: &[u8]) -> Option<Setting>
-    ensures { result ≡ setting_in key text.now }
+/// The place at which the value of a key is kept.
+#[tactic(auto, unfolding(crate::specs::Settings::place_of))]
+fn place_of(key: Key) -> usize
+    ensures value { result ≡ place_of key }
+    ensures within { result < 8 }
 {
     match key {
-        Key::Line => Some(Setting::Line(number_in(0, 15, text)? as u8)),
-        Key::Tick => Some(Setting::Tick(number_in(3_000, 90_000, text)?)),
-        Key::Jitter => Some(Setting::Jitter(number_in(1, 9_000, text)?)),
-        Key::Nibbles => Some(Setting::Nibbles(number_in(1, 6, text)? as u8)),
-        Key::Pause => Some(Setting::Pause(answer_of(text)?)),
-        Key::Crc => Some(Setting::Crc(crc_of(text)?)),
-        Key::Layout => Some(Setting::Layout(layout_of(text)?)),
-        Key::Serial => Some(Setting::Serial(serial_of(text)?)),
+        Key::Line => 0,
+        Key::Tick => 1,
+        Key::Jitter => 2,
+        Key::Nibbles => 3,
+        Key::Pause => 4,
+        Key::Crc => 5,
+        Key::Layout => 6,
+        Key::Serial => 7,
     }
 }
 
-/// The number, from the lowest to the highest, that one or more decimal digits write.
-#[tactic(auto, unfolding(crate::specs::Settings::number_within))]
-fn number_in(low: u32, high: u32, text: &[u8]) -> Option<u32>
-    ensures value { result ≡ number_within low high text.now }
-    ensures range { IfSome result (λ number. (low ≤ number) × (number ≤ high)) }
-{
-    let number = number_of(text)?;
-    if number >= u64::from(low) && number <= u64::from(high) {
-        Some(number as u32)
-    } else {
-        None
-    }
+/// What the pairs of a SPEC have set so far.
+#[derive(Clone, Copy)]
+pub(crate) struct Chosen {
+    values: [Option<Value>; KEYS],
 }
 
-/// `no` or `yes`.
-#[tactic(auto, unfolding(crate::specs::Settings::answer_in))]
-fn answer_of(text: &[u8]) -> Option<bool>
-    ensures { result ≡ answer_in text.now }
-{
-    if spells(text, b"no") {
-        Some(false)
-    } else if spells(text, b"yes") {
-        Some(true)
-    } else {
-        None
-    }
-}
+impl Chosen {
+    ghost use Rattle.link_words.specs.declared.setting.Setting.{Setting};
+    ghost use Rattle.link_words.specs.Choices.{Holds};
 
-/// The form of the CRC that a text names.
-#[tactic(auto, unfolding(crate::specs::Settings::crc_named))]
-fn crc_of(text: &[u8]) -> Option<CrcForm>
-    ensures { result ≡ crc_named text.now }
-{
-    if spells(text, b"new") {
-        Some(CrcForm::New)
-    } else if spells(text, b"legacy") {
-        Some(CrcForm::Legacy)
-    } else {
-        None
+    /// Nothing is set.
+    pub(crate) fn new() -> Chosen
+        ensures { Holds result [] }
+    {
+        Chosen {
+            values: [None; KEYS],
+        }
     }
-}
 
-/// The layout that a text names.
-#[tactic(auto, unfolding(crate::specs::Settings::layout_named))]
-fn layout_of(text: &[u8]) -> Option<Layout>
-    ensures { result ≡ layout_named text.now }
-{
-    if spells(text, b"raw") {
-        Some(Layout::Raw)
-    } else if spells(text, b"one12") {
-        Some(Layout::One12)
-    } else if spells(text, b"two12") {
-        Some(Layout::Two12)
-    } else if spells(text, b"secure12") {
-        Some(Layout::Secure12)
-    } else if spells(text, b"split16_8") {
-        Some(Layout::Split16x8)
-    } else {
-        None
+    /// The value that was set for the key.
+    pub(crate) fn value(&self, key: Key) -> Option<Value>
+        ensures { (settings : List Setting) → Holds self.now settings → result ≡ value_at key settings }
+    {
+        self.values[place_of(key)]
     }
-}
 
-/// The serial messages that a text names.
-#[tactic(auto, unfolding(crate::specs::Settings::serial_named))]
-fn serial_of(text: &[u8]) -> Option<Serial>
-    ensures { result ≡ serial_named text.now }
-{
-    if spells(text, b"none") {
-        Some(Serial::Absent)
-    } else if spells(text, b"short") {
-        Some(Serial::Short)
-    } else if spells(text, b"enhanced") {
-        Some(Serial::Enhanced)
-    } else {
-        None
+    /// Takes one more setting.
+    pub(crate) fn put(&mut self, setting: Setting)
+        ensures { (settings : List Setting) → Holds self.old settings → Holds self.new (setting ∷ settings) }
+    {
+        self.values[place_of(setting.key)] = Some(setting.value);
+    }
+
+    /// The number that was set for the key.
+    pub(crate) fn count(&self, key: Key) -> Option<u8>
+        ensures { (settings : List Setting) → Holds self.now settings → result ≡ count_at key settings }
+    {
+        match self.value(key) {
+            Some(Value::Count(count)) => Some(count),
+            _ => None,
+        }
+    }
+
+    /// The time that was set for the key, in ns.
+    pub(crate) fn time(&self, key: Key) -> Option<u32>
+        ensures { (settings : List Setting) → Holds self.now settings → result ≡ time_at key settings }
+    {
+        match self.value(key) {
+            Some(Value::Time(time)) => Some(time),
+            _ => None,
+        }
+    }
+
+    /// The answer that was set for the key.
+    pub(crate) fn answer(&self, key: Key) -> Option<bool>
+        ensures { (settings : List Setting) → Holds self.now settings → result ≡ answer_at key settings }
+    {
+        match self.value(key) {
+            Some(Value::Answer(answer)) => Some(answer),
+            _ => None,
+        }
+    }
+
+    /// The form of the CRC that was set for the key.
+    pub(crate) fn crc(&self, key: Key) -> Option<CrcForm>
+        ensures { (settings : List Setting) → Holds self.now settings → result ≡ crc_at key settings }
+    {
+        match self.value(key) {
+            Some(Value::Crc(form)) => Some(form),
+            _ => None,
+        }
+    }
+
+    /// The layout that was set for the key.
+    pub(crate) fn layout(&self, key: Key) -> Option<Layout>
+        ensures { (settings : List Setting) → Holds self.now settings → result ≡ layout_at key settings }
+    {
+        match self.value(key) {
+            Some(Value::Layout(layout)) => Some(layout),
+            _ => None,
+        }
+    }
+
+    /// The serial messages that were set for the key.
+    pub(crate) fn serial(&self, key: Key) -> Option<Serial>
+        ensures { (settings : List Setting) → Holds self.now settings → result ≡ serial_at key settings }
+    {
+        match self.value(key) {
+            Some(Value::Serial(serial)) => Some(serial),
+            _ => None,
+        }
     }
 }

@@ -3,66 +3,108 @@ ghost use Rattle.std.specs.Prelude.{◌≡◌, None, Ok, Err, IfOk, IfErr, List,
 ghost use Rattle.receiver_core.specs.Setups.{setup_fault_of};
 ghost use Rattle.link_words.specs.declared.setting.Setting.{Setting};
 ghost use Rattle.link_words.specs.Choices.{Holds};
-ghost use Rattle.link_words.specs.Specs.{pair_read, pairs_read, pairs_in, kind_fault, spec_read};
+ghost use Rattle.link_words.specs.Specs.{kind_in, row_in, pair_read, pairs_read, pairs_in, channel_set, without_fault, spec_read};
 
-use crate::chosen::Chosen;
-use crate::setting::{Setting, key_of, setting_of, spells};
+use crate::sent;
+use crate::setting::{Chosen, Row, Setting};
+use crate::value::{spells, value_of};
 use edge_trace::cut;
 use line_base::WordFault;
 use receiver_core::ChannelSetup;
 
+/// A kind of channel.
+#[derive(Clone, Copy)]
+enum Kind {
+    /// SENT frames.
+    Sent,
+}
+
+/// The kind that a text names; `NotBuilt` for a kind that isn't built yet, else `Kind`.
+#[tactic(auto, unfolding(crate::specs::Specs::kind_in))]
+fn kind_of(text: &[u8]) -> Result<Kind, WordFault>
+    ensures { result ≡ kind_in text.now }
+{
+    if spells(text, b"sent") {
+        Ok(Kind::Sent)
+    } else if spells(text, b"spc") || spells(text, b"psi5") || spells(text, b"tooth") {
+        Err(WordFault::NotBuilt)
+    } else {
+        Err(WordFault::Kind)
+    }
+}
+
+/// The row of the key that a text names, if the kind has it.
+fn row_of(kind: Kind, name: &[u8]) -> Option<Row>
+    ensures { result ≡ row_in kind name.now }
+{
+    match kind {
+        Kind::Sent => sent::row_of(name),
+    }
+}
+
+/// The channel of the kind that is set, or why what is set makes none.
+fn channel_of(kind: Kind, chosen: &Chosen) -> Result<ChannelSetup, WordFault>
+    ensures { (settings : List Setting) → Holds chosen.now settings → result ≡ channel_set kind settings }
+{
+    match kind {
+        Kind::Sent => sent::channel_of(chosen),
+    }
+}
+
 /// What a pair, cut at its first `=`, says behind what was chosen.
 #[tactic(auto, unfolding(crate::specs::Specs::parts_read))]
-fn read_pair(chosen: &Chosen, pair: &[u8]) -> Result<Setting, WordFault>
-    ensures { (before : List Setting) → Holds chosen.now before → result ≡ pair_read before pair.now }
+fn read_pair(kind: Kind, chosen: &Chosen, pair: &[u8]) -> Result<Setting, WordFault>
+    ensures { (before : List Setting) → Holds chosen.now before → result ≡ pair_read kind before pair.now }
 {
-    let (name, value) = cut(pair, b'=');
-    let value = value.ok_or(WordFault::Key)?;
-    let key = key_of(name).ok_or(WordFault::Key)?;
-    if chosen.has(key) {
+    let (name, text) = cut(pair, b'=');
+    let text = text.ok_or(WordFault::Key)?;
+    let row = row_of(kind, name).ok_or(WordFault::Key)?;
+    if chosen.value(row.key).is_some() {
         return Err(WordFault::Key);
     }
-    setting_of(key, value).ok_or(WordFault::Value)
+    let value = value_of(row.values, text).ok_or(WordFault::Value)?;
+    Ok(Setting {
+        key: row.key,
+        value,
+    })
 }
 
 /// What the pairs between the commas choose, or the first fault from the left.
-fn read_pairs(text: &[u8]) -> Result<Chosen, WordFault>
-    ensures good { IfOk result (λ chosen. (settings : List Setting) × Holds chosen settings × (pairs_read [] (pairs_in text.now) ≡ Ok settings)) }
-    ensures fault { IfErr result (λ fault. pairs_read [] (pairs_in text.now) ≡ Err fault) }
+fn read_pairs(kind: Kind, text: &[u8]) -> Result<Chosen, WordFault>
+    ensures good { IfOk result (λ chosen. (settings : List Setting) × Holds chosen settings × (pairs_read kind [] (pairs_in text.now) ≡ Ok settings)) }
+    ensures fault { IfErr result (λ fault. pairs_read kind [] (pairs_in text.now) ≡ Err fault) }
 {
     let mut chosen = Chosen::new();
     let mut rest = Some(text);
     'pairs: while let Some(text) = rest {
         let (pair, others) = cut(text, b',');
-        chosen.put(read_pair(&chosen, pair)?);
+        chosen.put(read_pair(kind, &chosen, pair)?);
         rest = others;
     }
     Ok(chosen)
 }
 
-/// The fault of a kind other than `sent`.
-#[tactic(auto, unfolding(crate::specs::Specs::kind_fault))]
-fn fault_of_kind(kind: &[u8]) -> WordFault
-    ensures { result ≡ kind_fault kind.now }
+/// The setup, or `Setup` where it has a fault.
+#[tactic(auto, unfolding(crate::specs::Specs::without_fault))]
+fn without_fault(setup: ChannelSetup) -> Result<ChannelSetup, WordFault>
+    ensures value { result ≡ without_fault setup }
+    ensures faultless { IfOk result (λ setup. setup_fault_of setup ≡ None) }
 {
-    if spells(kind, b"spc") || spells(kind, b"psi5") || spells(kind, b"tooth") {
-        WordFault::NotBuilt
-    } else {
-        WordFault::Kind
+    match setup.fault() {
+        None => Ok(setup),
+        Some(_) => Err(WordFault::Setup),
     }
 }
 
 /// The channel that a SPEC names, or its fault.
-#[tactic(auto, unfolding(crate::specs::Specs::kind_read))]
+#[tactic(auto, unfolding(crate::specs::Specs::channel_read))]
 pub(crate) fn read_spec(text: &[u8]) -> Result<ChannelSetup, WordFault>
     ensures value { result ≡ spec_read text.now }
     ensures faultless { IfOk result (λ setup. setup_fault_of setup ≡ None) }
 {
     let (kind, pairs) = cut(text, b':');
     let pairs = pairs.ok_or(WordFault::Kind)?;
-    if !spells(kind, b"sent") {
-        return Err(fault_of_kind(kind));
-    }
-    let chosen = read_pairs(pairs)?;
-    chosen.channel()
+    let kind = kind_of(kind)?;
+    let chosen = read_pairs(kind, pairs)?;
+    without_fault(channel_of(kind, &chosen)?)
 }

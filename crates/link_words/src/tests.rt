@@ -1,7 +1,7 @@
 //! What no clause says, that the definitions are the grammar which was meant: words with what they ask for.
 
 use super::*;
-use line_base::WordFault::{self, Absent, Key, Kind, Missing, NotBuilt, Setup, Value};
+use line_base::WordFault::{self, Absent, Channels, Key, Kind, Missing, NotBuilt, Setup, Value};
 use receiver_core::{ChannelSetup, Serial};
 use sent_fast::Layout;
 use sent_frame::{CrcForm, SentSetup};
@@ -24,11 +24,17 @@ type Frames = (u32, u32, u8, bool, CrcForm);
 /// The frames where nothing is said of them.
 const USUAL: Frames = (3_000, 300, 6, false, CrcForm::New);
 
+/// Frames of 1 nibble.
+const ONE: Frames = (3_000, 300, 1, false, CrcForm::New);
+
 /// Frames of 3 nibbles.
 const THREE: Frames = (3_000, 300, 3, false, CrcForm::New);
 
 /// Frames with a pause pulse and the legacy form of the CRC.
 const LEGACY: Frames = (3_000, 300, 6, true, CrcForm::Legacy);
+
+/// Frames with the legacy form of the CRC.
+const OLD: Frames = (3_000, 300, 6, false, CrcForm::Legacy);
 
 /// Frames of the longest tick, with a tenth of it as jitter.
 const SLOW: Frames = (90_000, 9_000, 6, false, CrcForm::New);
@@ -42,16 +48,27 @@ const STILL: Frames = (3_000, 1, 6, false, CrcForm::New);
 /// Frames of which nothing is as usual.
 const OTHER: Frames = (12_000, 700, 3, true, CrcForm::Legacy);
 
-/// What asks for these frames on this line.
-fn decode(rt: &impl Abort, line: u8, frames: Frames, layout: Layout, serial: Serial) -> Command {
+/// These frames on this line.
+fn channel(
+    rt: &impl Abort,
+    line: u8,
+    frames: Frames,
+    layout: Layout,
+    serial: Serial,
+) -> ChannelSetup {
     let (tick, jitter, nibbles, pause, crc) = frames;
     let setup = SentSetup::new(tick, jitter, nibbles, pause, crc).expect(rt, "in range");
-    Command::Decode(ChannelSetup::Sent {
+    ChannelSetup::Sent {
         line,
         setup,
         layout,
         serial,
-    })
+    }
+}
+
+/// What asks for these frames on this line.
+fn decode(rt: &impl Abort, line: u8, frames: Frames, layout: Layout, serial: Serial) -> Command {
+    Command::Decode(Setups::new(channel(rt, line, frames, layout, serial)))
 }
 
 #[test]
@@ -65,6 +82,8 @@ fn frames_are_as_usual_where_nothing_is_said(rt: HostRuntime) -> Result<(), Allo
         ("decode sent:line=0,tick=90000,jitter=9000", 0, SLOW),
         ("decode sent:line=0,tick=3019", 0, ODD),
         ("decode sent:line=0,jitter=1", 0, STILL),
+        ("decode sent:line=0,nibbles=1", 0, ONE),
+        ("decode sent:line=0,nibbles=6", 0, USUAL),
         ("decode sent:line=0,nibbles=3", 0, THREE),
         ("decode sent:line=0,crc=legacy,pause=yes", 0, LEGACY),
         ("decode sent:line=0,crc=new,pause=no", 0, USUAL),
@@ -115,6 +134,75 @@ fn all_eight_keys_may_be_set_in_any_order(rt: HostRuntime) -> Result<(), AllocEr
     Ok(())
 }
 
+#[test]
+fn channels_stand_in_the_order_of_their_specs(rt: HostRuntime) -> Result<(), AllocError> {
+    let words = words_of(rt.alloc(), "decode sent:line=0 sent:line=0,crc=legacy")?;
+    let command = read_words(&words).expect(&rt, "accepted");
+    let first = channel(&rt, 0, USUAL, Layout::Raw, Serial::Absent);
+    let second = channel(&rt, 0, OLD, Layout::Raw, Serial::Absent);
+    assert_eq!(rt; command.setups(), [first, second].as_slice());
+    assert!(rt; command.tells_reports());
+    Ok(())
+}
+
+#[test]
+fn check_takes_the_words_of_decode(rt: HostRuntime) -> Result<(), AllocError> {
+    let words = words_of(rt.alloc(), "check sent:line=0,nibbles=3")?;
+    let setups = Setups::new(channel(&rt, 0, THREE, Layout::Raw, Serial::Absent));
+    let command = read_words(&words).expect(&rt, "accepted");
+    assert_eq!(rt; command, Command::Check(setups));
+    assert_eq!(rt; command.setups(), setups.list());
+    assert!(rt; !command.tells_reports());
+    Ok(())
+}
+
+/// `decode` with a SPEC for each of the lines 0 to 15.
+fn sixteen(alloc: Global) -> Result<Vec<String>, AllocError> {
+    let mut words = words_of(alloc, "decode")?;
+    for line in 0..16 {
+        words.push(format!(in alloc; "sent:line={line}")?)?;
+    }
+    Ok(words)
+}
+
+#[test]
+fn sixteen_channels_are_accepted(rt: HostRuntime) -> Result<(), AllocError> {
+    let command = read_words(&sixteen(rt.alloc())?).expect(&rt, "accepted");
+    assert_eq!(rt; command.setups().len(), 16);
+    for (line, setup) in command.setups().iter().enumerate() {
+        assert_eq!(rt; usize::from(setup.line()), line);
+    }
+    Ok(())
+}
+
+#[test]
+fn the_seventeenth_spec_is_refused_unread(rt: HostRuntime) -> Result<(), AllocError> {
+    for spec in ["sent:line=0", "sent:line=16", "x"] {
+        let mut words = sixteen(rt.alloc())?;
+        words.push(String::from_str(rt.alloc(), spec)?)?;
+        let fault = WordsFault {
+            place: 18,
+            fault: Channels,
+        };
+        assert_eq!(rt; read_words(&words), Err(fault), "{spec}");
+    }
+    Ok(())
+}
+
+#[test]
+fn a_faulty_spec_is_told_before_the_seventeenth(rt: HostRuntime) -> Result<(), AllocError> {
+    let mut words = sixteen(rt.alloc())?;
+    let _ = words.pop();
+    words.push(String::from_str(rt.alloc(), "sent:line=16")?)?;
+    words.push(String::from_str(rt.alloc(), "sent:line=0")?)?;
+    let fault = WordsFault {
+        place: 17,
+        fault: Value,
+    };
+    assert_eq!(rt; read_words(&words), Err(fault));
+    Ok(())
+}
+
 /// The words are refused at this word.
 fn refused(
     rt: &impl Abort,
@@ -142,14 +230,16 @@ fn the_first_refused_word_is_told(rt: HostRuntime) -> Result<(), AllocError> {
             ("play", 1, WordFault::Command),
             ("Decode sent:line=0", 1, WordFault::Command),
             ("play sent:line=16", 1, WordFault::Command),
-            ("check", 1, NotBuilt),
             ("capture", 1, NotBuilt),
             ("simulate", 1, NotBuilt),
             ("loop", 1, NotBuilt),
             ("decode", 2, Missing),
-            ("decode sent:line=0 sent:line=1", 3, NotBuilt),
-            ("decode sent:line=0 x y", 3, NotBuilt),
-            ("decode sent:line=16 sent:line=1", 2, Value),
+            ("check", 2, Missing),
+            ("check sent:line=16", 2, Value),
+            ("decode sent:line=16", 2, Value),
+            ("decode sent:line=16 sent:tick=3000", 2, Value),
+            ("decode sent:line=0 sent:tick=3000", 3, Absent),
+            ("decode sent:line=0 sent:line=1 x sent:line=16", 4, Kind),
         ],
     )
 }

@@ -4,7 +4,7 @@ use Rattle.link_words.proofs.Pairs.{ReadSoFar}
 use Rattle.link_words.proofs.spec.read_pairs.Given as goal
 
 abbrev pub invariant-pairs : goal.invariant-pairs
-invariant-pairs l = ReadSoFar l.fn.text l.chosen (option_copied l.rest)
+invariant-pairs l = ReadSoFar l.fn.kind l.fn.text l.chosen (option_copied l.rest)
 
 abbrev pub decreases-pairs : goal.decreases-pairs
 decreases-pairs l = left_len (option_copied l.rest)
