@@ -4,9 +4,10 @@
     bench/second_reading.py [CAPTURES [SEED]]      1000 captures unless said
 
 The reading here is slow and plain: it looks at whole lists, tries all sixteen values of a pulse and divides
-polynomials bit by bit, and shares no code with the program. The captures have all keys of a SENT channel,
-drift and jitter within and beyond the bounds, broken pulses, wrong CRCs, serial messages with wrong bits,
-repeated levels and edges of another line. Ends with status 1 at the first capture that differs.
+polynomials bit by bit, and shares no code with the program. The captures have one to three lines with a
+sensor each, one to sixteen channels on them with all keys, drift and jitter within and beyond the bounds,
+broken pulses, wrong CRCs, serial messages with wrong bits, repeated levels and edges of another line. Both
+commands, decode and check, are run. Ends with status 1 at the first capture that differs.
 """
 import pathlib
 import random
@@ -198,11 +199,11 @@ def frame_reports(setup, pulses):
 
 
 def read(setup, edges):
-    """The lines of the edges of the channel's line, each a time and a level."""
+    """What the edges of the channel's line, each a time and a level, say at which place, and the counts."""
     falls = [(time, place) for place, (time, level) in enumerate(edges) if place and not level]
     pulses = [(b[0] - a[0], b[1]) for a, b in zip(falls, falls[1:])]
     steps_of = {"none": lambda _: [], "short": short_steps, "enhanced": enhanced_steps}[setup.serial]
-    lines, counter, statuses = [], None, []
+    lines, counter, statuses = [], None, []  # a place and a text each
     for place, report in frame_reports(setup, pulses):
         if isinstance(report, str):
             said, counter, statuses = [f"bad {report}"], None, []
@@ -214,13 +215,24 @@ def read(setup, edges):
             serial = [step for _, step in steps_of(statuses)[before:]]
             digits = "".join(f"{nibble:X}" for nibble in nibbles)
             said = [f"frame {status:X} {digits}"] + values + serial
-        lines += [f"00 {place} {text}" for text in said]
-    words = [line.split()[2] for line in lines]
-    good = words.count("frame")
+        lines += [(place, text) for text in said]
+    words = [text.split()[0] for _, text in lines]
     bad = words.count("bad") + words.count("counter")
     messages = sum(word in ("short", "enhanced4", "enhanced8") for word in words)
-    lines.append(f"00 total good {good} bad {bad} messages {messages} gaps 0 lost 0")
-    return lines, 1 if bad else 0
+    return lines, (words.count("frame"), bad, messages)
+
+
+def read_all(setups, rows):
+    """The report lines of all channels in the order of the list's edges, the total lines, and the status."""
+    reports, totals, status = [], [], 0
+    for channel, setup in enumerate(setups):
+        edges = edges_of(rows, setup.line)
+        lines, (good, bad, messages) = read(setup, [(time, level) for _, time, level in edges])
+        # A report comes at the edge of its place: by the row of that edge, then by channel.
+        reports += [(edges[place][0], channel, f"{channel:02} {place} {text}") for place, text in lines]
+        totals.append(f"{channel:02} total good {good} bad {bad} messages {messages} gaps 0 lost 0")
+        status = 1 if bad else status
+    return [text for _, _, text in sorted(reports, key=lambda report: report[:2])], totals, status
 
 
 def message(rng, serial):
@@ -298,11 +310,28 @@ def random_rows(rng, setup, falls):
 
 
 def edges_of(rows, line):
+    """The edges of a line: the number of its row, a time and a level each."""
     edges = []
-    for time, row_line, level in rows:
-        if row_line == line and (not edges or edges[-1][1] != level):
-            edges.append((time, level))
+    for row, (time, row_line, level) in enumerate(rows):
+        if row_line == line and (not edges or edges[-1][2] != level):
+            edges.append((row, time, level))
     return edges
+
+
+def random_capture(rng):
+    """Channels, and the rows of a list with a sensor on each of one to three lines."""
+    sensors = [random_setup(rng) for _ in range(rng.choice([1, 1, 1, 2, 3]))]
+    for sensor, line in zip(sensors, rng.sample(range(16), len(sensors))):
+        sensor.line = line
+    rows = sorted(
+        (row for sensor in sensors for row in random_rows(rng, sensor, random_falls(rng, sensor))),
+        key=lambda row: row[0],
+    )
+    setups = list(sensors)
+    if rng.random() < 0.3:
+        setups += [rng.choice([rng.choice(sensors), random_setup(rng)]) for _ in range(rng.choice([1, 2, 13]))]
+    rng.shuffle(setups)
+    return setups, rows
 
 
 def main():
@@ -310,20 +339,19 @@ def main():
     rng = random.Random(int(sys.argv[2]) if len(sys.argv) > 2 else 1)
     told = {}
     for capture in range(captures):
-        setup = random_setup(rng)
-        rows = random_rows(rng, setup, random_falls(rng, setup))
+        setups, rows = random_capture(rng)
         text = rng.choice(["\n", "\r\n"]).join(f"{t},{line},{level}" for t, line, level in rows) + "\n"
-        lines, status = read(setup, edges_of(rows, setup.line))
-        for line in lines[:-1]:
+        reports, totals, status = read_all(setups, rows)
+        for line in reports:
             said = line.split()[2:4]
             name = " ".join(said) if said[0] == "bad" else said[0]
             told[name] = told.get(name, 0) + 1
-        run = subprocess.run(
-            [PROGRAM, "decode", setup.spec()], input=text.encode(), capture_output=True, check=False
-        )
-        if run.stdout.decode().splitlines() != lines or run.returncode != status:
-            print(f"capture {capture} differs: {setup.spec()}", file=sys.stderr)
-            sys.exit(1)
+        specs = [setup.spec() for setup in setups]
+        for command, lines in (("decode", reports + totals), ("check", totals)):
+            run = subprocess.run([PROGRAM, command, *specs], input=text.encode(), capture_output=True, check=False)
+            if run.stdout.decode().splitlines() != lines or run.returncode != status:
+                print(f"capture {capture} differs: {command} {' '.join(specs)}", file=sys.stderr)
+                sys.exit(1)
     print(f"{captures} captures read alike:", ", ".join(f"{n} {name}" for name, n in sorted(told.items())))
 
 

@@ -1,5 +1,6 @@
--- The one channel of the command: its items, the reports on them, and what is written of them; this project's own.
-use Rattle.std.specs.Prelude.{ℕ, ◌+◌, ◌==◌, ◌||◌, nat_lt, Bool, is_some, List, ◌++◌, filter, flat_map, map, if◌then◌else◌}
+-- What is read of an edge list on its channels, and what is told of each; this project's own.
+use Rattle.std.specs.Prelude.{ℕ, ◌+◌, ◌==◌, ◌||◌, nat_lt, Bool, is_some, List, [], ◌∷◌, ◌++◌, length, drop, filter, flat_map, map, if◌then◌else◌}
+use Rattle.std.specs.List.{list_any}
 use Rattle.line_base.specs.declared.edge.Edge.{Edge}
 use Rattle.line_base.specs.declared.edge.Item.{Item}
 use Rattle.line_base.specs.declared.edge.Item.TheVariants as item
@@ -12,13 +13,13 @@ use Rattle.receiver_core.specs.Channels.{so_far, final}
 use Rattle.receiver_core.specs.Tallies.{tally_of}
 use Rattle.edge_command.specs.Texts.{report_line, total_line}
 
--- the edges of one line, in order
-unfoldable pub on_line : ℕ → List Edge → List Edge
-on_line line edges = filter (λ edge. edge.line == line) edges
+-- the edge is on a line that the channel reads
+abbrev pub is_on : ChannelSetup → Edge → Bool
+is_on setup edge = edge.line == line_of setup
 
--- the items of a channel: the edges of its line
+-- the items of a channel: the edges of its lines, in order
 unfoldable pub items_on : ChannelSetup → List Edge → List Item
-items_on setup edges = map item.Edge (on_line (line_of setup) edges)
+items_on setup edges = map item.Edge (filter (is_on setup) edges)
 
 -- the reports of a channel so far
 unfoldable pub reports_on : ChannelSetup → List Edge → List Report
@@ -28,29 +29,66 @@ reports_on setup edges = so_far setup (items_on setup edges)
 unfoldable pub final_on : ChannelSetup → List Edge → List Report
 final_on setup edges = final setup (items_on setup edges)
 
--- the lines of these reports
-unfoldable pub lines_of : List Report → List ℕ
-lines_of reports = flat_map (report_line 0) reports
+-- the reports by which those of a channel grow with one edge more
+unfoldable pub reports_added : ChannelSetup → List Edge → Edge → List Report
+reports_added setup before edge = drop (length (reports_on setup before)) (reports_on setup (before ++ edge ∷ []))
+
+-- the reports by which those of a channel grow at the end
+unfoldable pub reports_of_end : ChannelSetup → List Edge → List Report
+reports_of_end setup edges = drop (length (reports_on setup edges)) (final_on setup edges)
+
+-- the lines of these reports of the channel with this number
+unfoldable pub lines_of : ℕ → List Report → List ℕ
+lines_of channel reports = flat_map (report_line channel) reports
+
+-- the lines that an edge adds behind others, channel by channel, of which the first has this number
+unfoldable pub edge_lines : ℕ → List ChannelSetup → List Edge → Edge → List ℕ
+edge_lines channel [] before edge = []
+edge_lines channel (setup ∷ setups) before edge = lines_of channel (reports_added setup before edge) ++ edge_lines (channel + 1) setups before edge
+
+-- the lines that edges add behind others, edge by edge
+unfoldable pub lines_behind : List ChannelSetup → List Edge → List Edge → List ℕ
+lines_behind setups before [] = []
+lines_behind setups before (edge ∷ edges) = edge_lines 0 setups before edge ++ lines_behind setups (before ++ edge ∷ []) edges
+
+-- the lines that the end adds, channel by channel, of which the first has this number
+unfoldable pub end_lines : ℕ → List ChannelSetup → List Edge → List ℕ
+end_lines channel [] edges = []
+end_lines channel (setup ∷ setups) edges = lines_of channel (reports_of_end setup edges) ++ end_lines (channel + 1) setups edges
+
+-- the total lines, channel by channel, of which the first has this number
+unfoldable pub total_lines : ℕ → List ChannelSetup → List Edge → List ℕ
+total_lines channel [] edges = []
+total_lines channel (setup ∷ setups) edges = total_line channel (tally_of (final_on setup edges)) ++ total_lines (channel + 1) setups edges
+
+-- what is decoded: these channels, and whether a line is told of each report, or the totals alone
+pub record Decoding : Type 0 where
+  pub setups : List ChannelSetup
+  pub told : Bool
+
+-- these lines, where lines are told
+abbrev pub told_lines : Bool → List ℕ → List ℕ
+told_lines told lines = if told then lines else []
 
 -- the report lines of these edges
-unfoldable pub text_so_far : ChannelSetup → List Edge → List ℕ
-text_so_far setup edges = lines_of (reports_on setup edges)
+unfoldable pub text_so_far : Decoding → List Edge → List ℕ
+text_so_far decoding edges = told_lines decoding.told (lines_behind decoding.setups [] edges)
 
--- the report lines of these edges and of the end, and then the channel's total line
-unfoldable pub whole_text : ChannelSetup → List Edge → List ℕ
-whole_text setup edges = lines_of (final_on setup edges) ++ total_line 0 (tally_of (final_on setup edges))
+-- the report lines of these edges and of the end, and then the total line of each channel
+unfoldable pub whole_text : Decoding → List Edge → List ℕ
+whole_text decoding edges = text_so_far decoding edges ++ (told_lines decoding.told (end_lines 0 decoding.setups edges) ++ total_lines 0 decoding.setups edges)
 
--- the text of a whole input: the report lines of its edges, and then, where the edge list has no fault, those of the end and the channel's total line
-unfoldable pub text_of : ChannelSetup → List ℕ → List ℕ
-text_of setup bytes = if is_some (whole_fault_of bytes) then text_so_far setup (whole_edges_of bytes) else whole_text setup (whole_edges_of bytes)
+-- the text of a whole input: the report lines of its edges, and then, where the edge list has no fault, those of the end and the total lines
+unfoldable pub text_of : Decoding → List ℕ → List ℕ
+text_of decoding bytes = if is_some (whole_fault_of bytes) then text_so_far decoding (whole_edges_of bytes) else whole_text decoding (whole_edges_of bytes)
 
 -- a tally counts something bad, or a gap
 abbrev pub has_marks : Tally → Bool
 has_marks tally = nat_lt 0 tally.bad || nat_lt 0 tally.gaps
 
--- a report tells of something bad, or of a gap
-unfoldable pub is_marked : ChannelSetup → List Edge → Bool
-is_marked setup edges = has_marks (tally_of (final_on setup edges))
+-- a report of some channel tells of something bad, or of a gap
+unfoldable pub is_marked : List ChannelSetup → List Edge → Bool
+is_marked setups edges = list_any (λ setup. has_marks (tally_of (final_on setup edges))) setups
 
 -- how many reports a tally has counted: each as one of good, bad, a message or a gap, or not at all
 abbrev pub counted_in : Tally → ℕ

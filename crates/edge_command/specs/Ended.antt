@@ -5,11 +5,12 @@ use Rattle.line_base.specs.Streams.{AppendsFront}
 use Rattle.line_base.specs.declared.reason.Reason.{Reason}
 use Rattle.line_base.specs.declared.reason.Reason.TheVariants as reason
 use Rattle.edge_trace.specs.Limits.{edges_of, fault_of, whole_edges_of, whole_fault_of}
-use Rattle.receiver_core.specs.declared.setup.ChannelSetup.{ChannelSetup}
-use Rattle.edge_command.specs.Channels.{text_so_far, whole_text, text_of, is_marked}
+use Rattle.link_words.specs.declared.command.Command.{Command}
+use Rattle.link_words.specs.Commands.{setups_of_command, tells_reports}
+use Rattle.edge_command.specs.Channels.{Decoding, text_so_far, whole_text, text_of, is_marked}
 
 -- how far a run that stopped had read its source: at most 4,096 bytes behind bytes that have no fault and whose text is a front of what was written
-pub record HasReadTo (setup : ChannelSetup) (bytes : List ℕ) (left' got got' : Option (List ℕ)) : Type 0 where
+pub record HasReadTo (decoding : Decoding) (bytes : List ℕ) (left' got got' : Option (List ℕ)) : Type 0 where
   pub taken : List ℕ
   pub block : List ℕ
   pub rest : List ℕ
@@ -18,25 +19,29 @@ pub record HasReadTo (setup : ChannelSetup) (bytes : List ℕ) (left' got got' :
   pub small : length block ≤ 4096
   pub sound : fault_of taken ≡ None
   pub more : List ℕ
-  pub written : Appends got got' (text_so_far setup (edges_of taken) ++ more)
+  pub written : Appends got got' (text_so_far decoding (edges_of taken) ++ more)
 
--- how `decode` of a channel of this setup ends on these bytes, by its reason: what is left of them, and what the output has grown by
-unfoldable pub Ended : ChannelSetup → Reason → List ℕ → Option (List ℕ) → Option (List ℕ) → Option (List ℕ) → Type 0
+-- how a run that decodes so ends on these bytes, by its reason: what is left of them, and what the output has grown by
+unfoldable pub Ended : Decoding → Reason → List ℕ → Option (List ℕ) → Option (List ℕ) → Option (List ℕ) → Type 0
 -- all was read, the edge list has no fault, nothing bad was reported, and the whole text was written
-Ended setup reason.Clean bytes left' got got' =
-    (left' ≡ Some []) × (whole_fault_of bytes ≡ None) × (is_marked setup (whole_edges_of bytes) ≡ false) × Appends got got' (whole_text setup (whole_edges_of bytes))
+Ended decoding reason.Clean bytes left' got got' =
+    (left' ≡ Some []) × (whole_fault_of bytes ≡ None) × (is_marked decoding.setups (whole_edges_of bytes) ≡ false) × Appends got got' (whole_text decoding (whole_edges_of bytes))
 -- the same, and something bad was reported
-Ended setup reason.Marked bytes left' got got' =
-    (left' ≡ Some []) × (whole_fault_of bytes ≡ None) × (is_marked setup (whole_edges_of bytes) ≡ true) × Appends got got' (whole_text setup (whole_edges_of bytes))
+Ended decoding reason.Marked bytes left' got got' =
+    (left' ≡ Some []) × (whole_fault_of bytes ≡ None) × (is_marked decoding.setups (whole_edges_of bytes) ≡ true) × Appends got got' (whole_text decoding (whole_edges_of bytes))
 -- the edge list has this fault at this line, the text of the lines before it was written, and at most 4,096 bytes behind bytes without a fault were read
-Ended setup (reason.Input number fault) bytes left' got got' = (whole_fault_of bytes ≡ Some (number, fault)) × Appends got got' (text_so_far setup (edges_of bytes)) × HasReadTo setup bytes left' got got'
+Ended decoding (reason.Input number fault) bytes left' got got' = (whole_fault_of bytes ≡ Some (number, fault)) × Appends got got' (text_so_far decoding (edges_of bytes)) × HasReadTo decoding bytes left' got got'
 -- the bytes that were taken have no fault, and the text of their whole lines was written
-Ended setup reason.ReadFault bytes left' got got' =
-    (taken : List ℕ) × (rest : List ℕ) × (bytes ≡ taken ++ rest) × (left' ≡ Some rest) × (fault_of taken ≡ None) × Appends got got' (text_so_far setup (edges_of taken))
+Ended decoding reason.ReadFault bytes left' got got' =
+    (taken : List ℕ) × (rest : List ℕ) × (bytes ≡ taken ++ rest) × (left' ≡ Some rest) × (fault_of taken ≡ None) × Appends got got' (text_so_far decoding (edges_of taken))
 -- a front of the text of the input was written, and at most 4,096 bytes were read behind bytes without a fault whose text is whole in it
-Ended setup (reason.WriteFault None) bytes left' got got' = AppendsFront got got' (text_of setup bytes) × HasReadTo setup bytes left' got got'
+Ended decoding (reason.WriteFault None) bytes left' got got' = AppendsFront got got' (text_of decoding bytes) × HasReadTo decoding bytes left' got got'
 -- nothing was read or written
-Ended setup reason.OutOfMemory bytes left' got got' = (left' ≡ Some bytes) × Appends got got' []
+Ended decoding reason.OutOfMemory bytes left' got got' = (left' ≡ Some bytes) × Appends got got' []
 -- no lane is written to, and the words were accepted
-Ended setup (reason.WriteFault (Some lane)) bytes left' got got' = ⊥
-Ended setup (reason.Words place fault) bytes left' got got' = ⊥
+Ended decoding (reason.WriteFault (Some lane)) bytes left' got got' = ⊥
+Ended decoding (reason.Words place fault) bytes left' got got' = ⊥
+
+-- what a command decodes and tells
+abbrev pub decoding_in : Command → Decoding
+decoding_in command = record { setups = setups_of_command command; told = tells_reports command }

@@ -2,7 +2,9 @@ pub mod Names
 pub mod Texts
 pub mod Channels
 pub mod Writes
-pub mod Decoders
+pub mod Followed
 pub mod Runs
 pub mod Totals
 pub mod Ended
+pub mod Counted
+pub mod Explained

@@ -1,35 +1,52 @@
--- How far a run has come; this project's own.
-use Rattle.std.specs.Prelude.{◌≡◌, ℕ, ◌≤◌, List, Option, None, Some, Result, Err}
+-- How far a run over bytes has come, and why it stops; this project's own.
+use Rattle.std.specs.Prelude.{◌≡◌, ℕ, List, [], Option, None, Some}
 use Rattle.line_base.specs.declared.reason.Reason.{Reason}
 use Rattle.line_base.specs.declared.reason.Reason.TheVariants as reason
-use Rattle.line_base.specs.Causes.{Rose}
 use Rattle.edge_trace.specs.Limits.{edges_of, fault_of}
 use Rattle.edge_trace.specs.Readers.{StandsFor}
-use Rattle.receiver_core.specs.declared.setup.ChannelSetup.{ChannelSetup}
 use Rattle.edge_command.specs.declared.run.Run.{Run}
-use Rattle.edge_command.specs.Channels.{text_so_far}
-use Rattle.edge_command.specs.Decoders.{Follows}
-use Rattle.edge_command.specs.Writes.{GrowsAlong, GrowsTowards}
+use Rattle.edge_command.specs.declared.run.Stop.{Stop}
+use Rattle.edge_command.specs.declared.run.Stop.TheVariants as stop
+use Rattle.edge_command.specs.Channels.{Decoding, text_so_far}
+use Rattle.edge_command.specs.Followed.{AllFollow, setups_of}
+use Rattle.edge_command.specs.Writes.{Written, GrowsAlong, GrowsTowards}
 
--- a run has taken these bytes, which have no fault: its edge reader stands for them, and its channel has taken their edges
+-- what a run decodes and tells
+abbrev pub decoding_of : Run → Decoding
+decoding_of run = record { setups = setups_of run.channels.items; told = run.told }
+
+-- an output that holds this, for which a run has gathered its lines
+abbrev pub written_by : Run → Option (List ℕ) → Written
+written_by run got = record { got = got; gathered = run.text }
+
+-- an output that holds this, for which nothing is gathered
+abbrev pub put_out : Option (List ℕ) → Written
+put_out got = record { got = got; gathered = [] }
+
+-- a run has taken these bytes, which have no fault: its edge reader stands for them, and its channels have taken their edges
 pub record Reads (run : Run) (bytes : List ℕ) : Type 0 where
   pub lines : StandsFor run.lines bytes
   pub sound : fault_of bytes ≡ None
-  pub follows : Follows run.channel (edges_of bytes)
-
--- what a run that stopped at its bytes has written since earlier ones, by its reason: at a line that is refused, the text so far; at a put that failed, a front of it
-abbrev pub Stopped : ChannelSetup → Reason → Option (List ℕ) → Option (List ℕ) → List ℕ → List ℕ → Type 0
-Stopped setup (reason.Input number fault) got got' earlier bytes =
-    (fault_of bytes ≡ Some (number, fault)) × GrowsAlong got got' (text_so_far setup (edges_of earlier)) (text_so_far setup (edges_of bytes))
-Stopped setup (reason.WriteFault None) got got' earlier bytes = GrowsTowards got got' (text_so_far setup (edges_of earlier)) (text_so_far setup (edges_of bytes))
-Stopped setup _ got got' earlier bytes = ⊥
+  pub follow : AllFollow run.channels.items (edges_of bytes)
 
 -- a run took bytes up to a later list of bytes, and what it wrote went along
 pub record TookBytes (old new : Run) (got got' : Option (List ℕ)) (earlier bytes : List ℕ) : Type 0 where
   pub reads : Reads new bytes
-  pub grows : GrowsAlong got got' (text_so_far old.channel.setup (edges_of earlier)) (text_so_far old.channel.setup (edges_of bytes))
+  pub grows : GrowsAlong (written_by old got) (written_by new got') (text_so_far (decoding_of old) (edges_of earlier)) (text_so_far (decoding_of old) (edges_of bytes))
 
--- the sink's faults never fell, and where a put's fault is the reason, it was the output's, and they rose
-pub record IsStopOf (faults faults' : ℕ) (result : Result (Unit {0}) Reason) : Type 0 where
-  pub later : faults ≤ faults'
-  pub put : (lane : Option ℕ) → result ≡ Err (reason.WriteFault lane) → (lane ≡ None) × Rose faults faults'
+-- the same of a run that has put all its lines, before and after
+pub record TookPull (old new : Run) (got got' : Option (List ℕ)) (earlier bytes : List ℕ) : Type 0 where
+  pub reads : Reads new bytes
+  pub grows : GrowsAlong (put_out got) (put_out got') (text_so_far (decoding_of old) (edges_of earlier)) (text_so_far (decoding_of old) (edges_of bytes))
+
+-- what a run that stopped at its bytes has written since earlier ones: at a line that is refused, the text so far; at a put that failed, a front of it
+abbrev pub StoppedAt : Decoding → Stop → Written → Written → List ℕ → List ℕ → Type 0
+StoppedAt decoding (stop.Line number fault) old new earlier bytes =
+    (fault_of bytes ≡ Some (number, fault)) × GrowsAlong old new (text_so_far decoding (edges_of earlier)) (text_so_far decoding (edges_of bytes))
+StoppedAt decoding stop.Put old new earlier bytes = GrowsTowards old new.got (text_so_far decoding (edges_of earlier)) (text_so_far decoding (edges_of bytes))
+
+-- the same of a run that has put all its lines, by its reason
+abbrev pub Stopped : Decoding → Reason → Option (List ℕ) → Option (List ℕ) → List ℕ → List ℕ → Type 0
+Stopped decoding (reason.Input number fault) got got' earlier bytes = StoppedAt decoding (stop.Line number fault) (put_out got) (put_out got') earlier bytes
+Stopped decoding (reason.WriteFault None) got got' earlier bytes = StoppedAt decoding stop.Put (put_out got) (put_out got') earlier bytes
+Stopped decoding _ got got' earlier bytes = ⊥

@@ -1,7 +1,10 @@
 //! The commands of the receiver: words and bytes in, report lines and a reason out.
 #![tactic(auto)]
 
-mod decoder;
+mod channel;
+mod channels;
+mod explained;
+mod gathered;
 mod names;
 mod plain;
 mod report;
@@ -9,4 +12,5 @@ mod run;
 #[cfg(test)]
 mod tests;
 
+pub use explained::{EXPLAINED_ROOM, explain};
 pub use plain::{Plain, run_plain};

@@ -1,18 +1,20 @@
 //! The top call without threads.
-ghost use Rattle.std.specs.Prelude.{◌≡◌, ◌↔◌, Err, IsErr, ◌+◌, ◌<◌, ◌≤◌, [], List, ℕ, Option, None, Some, IfSome, IfOk, length, map, string_bytes, vec_len};
-ghost use Rattle.line_base.specs.Causes.{Rose};
+ghost use Rattle.std.specs.Prelude.{All, ◌≢◌, ◌∷◌, true, ◌≡◌, ◌↔◌, Err, IsErr, ◌+◌, ◌<◌, ◌≤◌, [], List, ℕ, Option, None, Some, IfSome, IfOk, length, map, string_bytes, vec_len};
 ghost use Rattle.line_base.specs.Reasons.{status_of};
 ghost use Rattle.line_base.specs.declared.reason.Reason.TheVariants as reason;
 ghost use Rattle.receiver_core.specs.Setups.{setup_fault_of};
-ghost use Rattle.link_words.specs.Commands.{words_read, refused, channel_in};
-ghost use Rattle.edge_command.specs.Ended.{Ended};
+ghost use Rattle.link_words.specs.Commands.{words_read, refused};
+ghost use Rattle.edge_command.specs.Ended.{Ended, decoding_in};
+ghost use Rattle.edge_command.specs.Followed.{AllFollow, setups_of};
 ghost use Rattle.edge_command.specs.Totals.{IsOfRun};
+ghost use Rattle.edge_command.specs.Counted.{OutputCounted, SourceCounted};
 ghost use Rattle.line_base.specs.declared.faults.WordFault.{WordFault};
 
-use crate::decoder::Decoder;
+use crate::channel::Channel;
+use crate::channels::channels_of;
 use crate::run::Run;
 use line_base::{Failed, Reason, Sink, Source};
-use link_words::{Command, WordsFault, read_words};
+use link_words::{WordsFault, read_words};
 use receiver_core::ChannelSetup;
 use std::alloc::{AllocError, Global};
 
@@ -31,32 +33,31 @@ pub struct Plain {
     pub reason: Reason,
 }
 
-/// A buffer for pulls, of 1 to 4,096 bytes.
+/// A buffer for pulls, of 4,096 bytes.
 fn read_buffer(alloc: Global) -> Result<Vec<u8>, AllocError>
-    ensures some { IfOk result (λ buffer. 0 < vec_len buffer) }
-    ensures small { IfOk result (λ buffer. vec_len buffer ≤ 4096) }
+    ensures { IfOk result (λ buffer. vec_len buffer ≡ 4096) }
 {
     vec![in alloc; 0u8; READ_SIZE]
 }
 
-/// Decodes a channel, whose setup has no fault, from all of a source's bytes, and puts the text.
+/// Decodes all of a source's bytes on these channels, at most 16, that have taken no edge, and puts the text,
+/// with a line for each report where lines are told.
 fn decode<S: Source, K: Sink>(
-    setup: ChannelSetup,
+    channels: Vec<Channel>,
+    told: bool,
     buffer: &mut [u8],
     source: &mut S,
     out: &mut K,
 ) -> Reason
-    requires no_fault { setup_fault_of setup ≡ None }
-    requires some { 0 < length buffer.old }
-    requires small { length buffer.old ≤ 4096 }
+    requires few { length channels.items ≤ 16 }
+    requires follow { AllFollow channels.items [] }
+    requires size { length buffer.old ≡ 4096 }
     ensures kind { IsOfRun result }
-    ensures ended { IfSome (S.left source.old) (λ bytes. Ended setup result bytes (S.left source.new) (K.got out.old) (K.got out.new)) }
-    ensures read { result ≡ reason.ReadFault → Rose (S.faults source.old) (S.faults source.new) }
-    ensures write { (lane : Option ℕ) → result ≡ reason.WriteFault lane → (lane ≡ None) × Rose (K.faults out.old) (K.faults out.new) }
-    ensures source_later { S.faults source.old ≤ S.faults source.new }
-    ensures sink_later { K.faults out.old ≤ K.faults out.new }
+    ensures ended { IfSome (S.left source.old) (λ bytes. Ended (record { setups = setups_of channels.items; told = told }) result bytes (S.left source.new) (K.got out.old) (K.got out.new)) }
+    ensures source { SourceCounted result (S.faults source.old) (S.faults source.new) }
+    ensures output { OutputCounted result (K.faults out.old) (K.faults out.new) }
 {
-    let mut run = Run::new(Decoder::new(&setup));
+    let mut run = Run::new(channels, told);
     for _pull in 0..MAX_PULLS {
         let count = match source.pull(buffer) {
             Ok(count) => count,
@@ -65,34 +66,59 @@ fn decode<S: Source, K: Sink>(
         if count == 0 {
             return run.finish(out);
         }
-        if let Err(reason) = run.take_block(&buffer[..count], out) {
+        if let Err(reason) = run.take_pull(&buffer[..count], out) {
             return reason;
         }
     }
     unreachable!()
 }
 
-/// Why a run ended: its words are refused, there is no memory for the read buffer, or what decoding the
-/// source's bytes came to.
+/// Decodes all of a source's bytes on channels of these setups, at most 16 and none with a fault. Takes its
+/// memory before the first pull.
+fn decode_on<S: Source, K: Sink>(
+    alloc: Global,
+    setups: &[ChannelSetup],
+    told: bool,
+    source: &mut S,
+    out: &mut K,
+) -> Reason
+    requires few { length setups.now ≤ 16 }
+    requires no_fault { All (λ setup. setup_fault_of setup ≡ None) setups.now }
+    ensures words { (place : ℕ) (fault : WordFault) → result ≢ reason.Words place fault }
+    ensures memory { result ≡ reason.OutOfMemory → (source.new ≡ source.old) × (out.new ≡ out.old) }
+    ensures ended { IfSome (S.left source.old) (λ bytes. Ended (record { setups = setups.now; told = told }) result bytes (S.left source.new) (K.got out.old) (K.got out.new)) }
+    ensures source { SourceCounted result (S.faults source.old) (S.faults source.new) }
+    ensures output { OutputCounted result (K.faults out.old) (K.faults out.new) }
+{
+    let Ok(channels) = channels_of(alloc, setups) else {
+        return Reason::OutOfMemory;
+    };
+    match read_buffer(alloc) {
+        Ok(mut buffer) => decode(channels, told, buffer.as_mut_slice(), source, out),
+        Err(AllocError) => Reason::OutOfMemory,
+    }
+}
+
+/// Why a run ended: its words are refused, there is no memory, or what decoding the source's bytes came to.
 fn run<S: Source, K: Sink>(alloc: Global, words: &[String], source: &mut S, out: &mut K) -> Reason
     ensures words { (place : ℕ) (fault : WordFault) →
         (result ≡ reason.Words place fault) ↔ (words_read (map string_bytes words.now) ≡ refused place fault) }
     ensures refused { IsErr (words_read (map string_bytes words.now)) → (source.new ≡ source.old) × (out.new ≡ out.old) }
     ensures memory { result ≡ reason.OutOfMemory → (source.new ≡ source.old) × (out.new ≡ out.old) }
     ensures ended { IfOk (words_read (map string_bytes words.now)) (λ command. IfSome (S.left source.old)
-        (λ bytes. Ended (channel_in command) result bytes (S.left source.new) (K.got out.old) (K.got out.new))) }
-    ensures read { result ≡ reason.ReadFault → Rose (S.faults source.old) (S.faults source.new) }
-    ensures write { (lane : Option ℕ) → result ≡ reason.WriteFault lane → (lane ≡ None) × Rose (K.faults out.old) (K.faults out.new) }
-    ensures source_later { S.faults source.old ≤ S.faults source.new }
-    ensures sink_later { K.faults out.old ≤ K.faults out.new }
+        (λ bytes. Ended (decoding_in command) result bytes (S.left source.new) (K.got out.old) (K.got out.new))) }
+    ensures source { SourceCounted result (S.faults source.old) (S.faults source.new) }
+    ensures output { OutputCounted result (K.faults out.old) (K.faults out.new) }
 {
-    let setup = match read_words(words) {
-        Ok(Command::Decode(setup)) => setup,
-        Err(WordsFault { place, fault }) => return Reason::Words { place, fault },
-    };
-    match read_buffer(alloc) {
-        Ok(mut buffer) => decode(setup, buffer.as_mut_slice(), source, out),
-        Err(AllocError) => Reason::OutOfMemory,
+    match read_words(words) {
+        Ok(command) => decode_on(
+            alloc,
+            command.setups(),
+            command.tells_reports(),
+            source,
+            out,
+        ),
+        Err(WordsFault { place, fault }) => Reason::Words { place, fault },
     }
 }
 
@@ -114,13 +140,11 @@ pub fn run_plain<S: Source, K: Sink>(
 
     // Where source and sink tell their bytes: what was read and written, for each reason.
     ensures ended { IfOk (words_read (map string_bytes words.now)) (λ command. IfSome (S.left source.old)
-        (λ bytes. Ended (channel_in command) result.reason bytes (S.left source.new) (K.got out.old) (K.got out.new))) }
+        (λ bytes. Ended (decoding_in command) result.reason bytes (S.left source.new) (K.got out.old) (K.got out.new))) }
 
-    // A fault is answered only where it was counted.
-    ensures read { result.reason ≡ reason.ReadFault → Rose (S.faults source.old) (S.faults source.new) }
-    ensures write { (lane : Option ℕ) → result.reason ≡ reason.WriteFault lane → (lane ≡ None) × Rose (K.faults out.old) (K.faults out.new) }
-    ensures source_later { S.faults source.old ≤ S.faults source.new }
-    ensures sink_later { K.faults out.old ≤ K.faults out.new }
+    // A fault is answered exactly where it was counted, and none is passed over.
+    ensures source { SourceCounted result.reason (S.faults source.old) (S.faults source.new) }
+    ensures output { OutputCounted result.reason (K.faults out.old) (K.faults out.new) }
 {
     let reason = run(alloc, words, source, out);
     Plain {

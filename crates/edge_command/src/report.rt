@@ -20,7 +20,7 @@ pub const TOTAL_ROOM: usize = 160;
 const HEX_DIGITS: &[u8; 16] = b"0123456789ABCDEF";
 
 /// Adds a number in decimal.
-fn push_decimal<const N: usize>(out: &mut ArrayString<N>, number: u64)
+pub fn push_decimal<const N: usize>(out: &mut ArrayString<N>, number: u64)
     requires { length out.old.bytes + 20 ≤ N }
     ensures bytes { out.new.bytes ≡ out.old.bytes ++ decimal number }
     ensures len { length out.new.bytes ≤ length out.old.bytes + 20 }

@@ -1,79 +1,164 @@
-//! A run over bytes: each byte is read, and the lines of what it ends are put.
-ghost use Rattle.std.specs.Prelude.{◌≡◌, ◌+◌, ◌*◌, ◌^◌, ◌<◌, ◌≤◌, ◌++◌, [], ◌∷◌, List, ℕ, Option, None, length, OnOk, OnErr, IfErr};
+//! A run over bytes: each byte is read, and what it ends is handed to the channels and told.
+ghost use Rattle.std.specs.Prelude.{◌≡◌, ◌+◌, ◌^◌, ◌<◌, ◌≤◌, ◌++◌, [], ◌∷◌, List, ℕ, Option, None, All, MatchOption, length, OnErr, OnOk, IfErr};
+ghost use Rattle.line_base.specs.Causes.{HasCause};
+ghost use Rattle.line_base.specs.declared.edge.Edge.{Edge};
+ghost use Rattle.edge_command.specs.Channels.{lines_behind, text_so_far, told_lines, whole_text};
+ghost use Rattle.edge_command.specs.Followed.{AllCounted, AllFollow, setups_of};
+ghost use Rattle.edge_command.specs.Writes.{GrowsAlong, GrowsTowards, Takes, TakesFront};
 
-use crate::decoder::Decoder;
-use edge_trace::EdgeReader;
-use line_base::{Failed, Reason, Sink};
+use crate::channel::Channel;
+use crate::channels::{are_marked, put_end, take_edge};
+use crate::gathered::Gathered;
+use arrayvec::ArrayVec;
+use edge_trace::{EdgeReader, EdgesLeft, RowEdges};
+use line_base::{Edge, Failed, LineFault, Reason, Sink};
+use receiver_core::Report;
+
+/// Why a run stops before the end of its input.
+#[derive(Clone, Copy, Debug, PartialEq, Eq)]
+pub enum Stop {
+    /// A line of the input is refused.
+    Line {
+        /// Its number, from 1.
+        number: u64,
+        /// Why it is refused.
+        fault: LineFault,
+    },
+    /// A put failed.
+    Put,
+}
 
 /// What a run has taken.
 #[derive(Drop)]
 pub struct Run {
     /// The reader of the edge list.
     pub lines: EdgeReader,
-    /// The channel.
-    pub channel: Decoder,
+    /// The channels, at most 16.
+    pub channels: Vec<Channel>,
+    /// Whether a line is told of each report.
+    pub told: bool,
+    /// The lines that are told and not put yet.
+    pub text: Gathered,
+    /// Holds the reports of one edge while they are told.
+    reports: ArrayVec<Report, 8>,
+    ghost few: { length channels.items ≤ 16 },
+    ghost empty: { reports.items ≡ [] },
+}
+
+/// Hands the edges of a row to the channels, one after another.
+#[inline]
+fn take_row<K: Sink>(
+    channels: &mut [Channel],
+    told: bool,
+    mut row: EdgesLeft,
+    reports: &mut ArrayVec<Report, 8>,
+    text: &mut Gathered,
+    out: &mut K,
+) -> Result<(), Failed>
+    requires few { length channels.old ≤ 16 }
+    requires in_range { All (λ edge. edge.time ≤ 10 ^ 15) row }
+    requires empty { reports.old.items ≡ [] }
+    requires follow { (edges : List Edge) × AllFollow channels.old edges × (length edges + length row < 2 ^ 60) }
+    ensures setups { setups_of channels.new ≡ setups_of channels.old }
+    ensures empty { reports.new.items ≡ [] }
+    ensures follow { OnOk result ((edges : List Edge) → AllFollow channels.old edges → AllFollow channels.new (edges ++ row)) }
+    ensures written { OnOk result ((edges : List Edge) → AllFollow channels.old edges
+        → Takes (record { got = K.got out.old; gathered = text.old }) (record { got = K.got out.new; gathered = text.new }) (told_lines told (lines_behind (setups_of channels.old) edges row))) }
+    ensures cut { OnErr result ((edges : List Edge) → AllFollow channels.old edges
+        → TakesFront (record { got = K.got out.old; gathered = text.old }) (K.got out.new) (told_lines told (lines_behind (setups_of channels.old) edges row))) }
+    ensures cause { HasCause (K.faults out.old) (K.faults out.new) result }
+{
+    match row.take() {
+        None => Ok(()),
+        Some(edge) => {
+            take_edge(channels, told, 0, edge, reports, text, out)?;
+            take_row(channels, told, row, reports, text, out)
+        }
+    }
 }
 
 impl Run {
-    ghost use Rattle.line_base.specs.Causes.{HasCause, Rose};
-    ghost use Rattle.line_base.specs.declared.reason.Reason.TheVariants as reason;
-    ghost use Rattle.edge_command.specs.Channels.{text_so_far};
-    ghost use Rattle.edge_command.specs.Runs.{Reads, Stopped, TookBytes, IsStopOf};
-    ghost use Rattle.edge_command.specs.Totals.{LastPut, Finished, IsOfRun};
-    ghost use Rattle.edge_command.specs.Decoders.{Follows};
-    ghost use Rattle.edge_trace.specs.Limits.{whole_edges_of};
+    ghost use Rattle.edge_trace.specs.Limits.{edges_of, whole_edges_of};
+    ghost use Rattle.edge_command.specs.Runs.{Reads, StoppedAt, Stopped, TookBytes, TookPull, decoding_of, put_out, written_by};
+    ghost use Rattle.edge_command.specs.Totals.{LastTaken, Finished, IsOfRun};
+    ghost use Rattle.edge_command.specs.Counted.{OutputCounted, PartCounted, StopCounted};
 
-    /// A run over a channel that has taken no edge.
-    pub fn new(channel: Decoder) -> Run
-        requires { Follows channel [] }
-        ensures channel { result.channel ≡ channel }
+    /// A run over these channels, at most 16, that have taken no edge; with a line for each report where
+    /// lines are told.
+    pub fn new(channels: Vec<Channel>, told: bool) -> Run
+        requires few { length channels.items ≤ 16 }
+        requires follow { AllFollow channels.items [] }
+        ensures channels { result.channels ≡ channels }
+        ensures told { result.told ≡ told }
+        ensures gathered { result.text ≡ [] }
         ensures reads { Reads result [] }
     {
         Run {
             lines: EdgeReader::new(),
-            channel,
+            channels,
+            told,
+            text: Gathered::new(),
+            reports: ArrayVec::new(),
         }
     }
 
-    /// Takes the next byte, and puts the lines of what it ends.
+    /// Hands the edges of a row to the channels.
     #[inline(always)]
-    pub fn take_byte<K: Sink>(&mut self, byte: u8, out: &mut K) -> Result<(), Reason>
-        requires room { self.old.channel.number < 2 ^ 60 }
-        requires reads { (bytes : List ℕ) × Reads self.old bytes }
-        ensures setup { self.new.channel.setup ≡ self.old.channel.setup }
-        ensures number { self.new.channel.number ≤ self.old.channel.number + 16 }
+    fn put_row<K: Sink>(&mut self, row: &RowEdges, out: &mut K) -> Result<(), Failed>
+        requires in_range { All (λ edge. edge.time ≤ 10 ^ 15) row.now }
+        requires follow { (edges : List Edge) × AllFollow self.old.channels.items edges × (length edges + length row.now < 2 ^ 60) }
+        ensures decoding { decoding_of self.new ≡ decoding_of self.old }
+        ensures lines { self.new.lines ≡ self.old.lines }
+        ensures follow { OnOk result ((edges : List Edge) → AllFollow self.old.channels.items edges → AllFollow self.new.channels.items (edges ++ row.now)) }
+        ensures written { OnOk result ((edges : List Edge) → AllFollow self.old.channels.items edges
+            → GrowsAlong (written_by self.old (K.got out.old)) (written_by self.new (K.got out.new)) (text_so_far (decoding_of self.old) edges) (text_so_far (decoding_of self.old) (edges ++ row.now))) }
+        ensures cut { OnErr result ((edges : List Edge) → AllFollow self.old.channels.items edges
+            → GrowsTowards (written_by self.old (K.got out.old)) (K.got out.new) (text_so_far (decoding_of self.old) edges) (text_so_far (decoding_of self.old) (edges ++ row.now))) }
+        ensures cause { HasCause (K.faults out.old) (K.faults out.new) result }
+    {
+        take_row(
+            self.channels.as_mut_slice(),
+            self.told,
+            row.edges(),
+            &mut self.reports,
+            &mut self.text,
+            out,
+        )
+    }
+
+    /// Takes the next byte, and writes the lines of what it ends.
+    #[inline(always)]
+    fn take_byte<K: Sink>(&mut self, byte: u8, out: &mut K) -> Result<(), Stop>
+        requires { (bytes : List ℕ) × Reads self.old bytes }
+        ensures decoding { decoding_of self.new ≡ decoding_of self.old }
         ensures took { OnOk result ((bytes : List ℕ) → Reads self.old bytes
             → TookBytes self.old self.new (K.got out.old) (K.got out.new) bytes (bytes ++ byte ∷ [])) }
-        ensures stopped { IfErr result (λ reason. (bytes : List ℕ) → Reads self.old bytes
-            → Stopped self.old.channel.setup reason (K.got out.old) (K.got out.new) bytes (bytes ++ byte ∷ [])) }
-        ensures kind { IfErr result IsOfRun }
-        ensures cause { IsStopOf (K.faults out.old) (K.faults out.new) result }
+        ensures stopped { IfErr result (λ why. (bytes : List ℕ) → Reads self.old bytes
+            → StoppedAt (decoding_of self.old) why (written_by self.old (K.got out.old)) (written_by self.new (K.got out.new)) bytes (bytes ++ byte ∷ [])) }
+        ensures output { StopCounted result (K.faults out.old) (K.faults out.new) }
     {
         match self.lines.feed(byte) {
             None => Ok(()),
-            Some(Ok(row)) => match self.channel.put_row(&row.edges, out) {
+            Some(Ok(row)) => match self.put_row(&row.edges, out) {
                 Ok(()) => Ok(()),
-                Err(Failed) => Err(Reason::WriteFault { lane: None }),
+                Err(Failed) => Err(Stop::Put),
             },
-            Some(Err(fault)) => Err(Reason::Input {
-                line: self.lines.line_number(),
+            Some(Err(fault)) => Err(Stop::Line {
+                number: self.lines.line_number(),
                 fault,
             }),
         }
     }
 
-    /// Takes the bytes of a block, and puts the lines of what each ends before the next is looked at.
-    pub fn take_block<K: Sink>(&mut self, block: &[u8], out: &mut K) -> Result<(), Reason>
-        requires room { self.old.channel.number + 16 * length block.now < 2 ^ 60 }
-        requires reads { (bytes : List ℕ) × Reads self.old bytes }
-        ensures setup { self.new.channel.setup ≡ self.old.channel.setup }
-        ensures number { self.new.channel.number ≤ self.old.channel.number + 16 * length block.now }
+    /// Takes the bytes of a block, and writes the lines of what each ends before the next is looked at.
+    fn take_block<K: Sink>(&mut self, block: &[u8], out: &mut K) -> Result<(), Stop>
+        requires { (bytes : List ℕ) × Reads self.old bytes }
+        ensures decoding { decoding_of self.new ≡ decoding_of self.old }
         ensures took { OnOk result ((bytes : List ℕ) → Reads self.old bytes
             → TookBytes self.old self.new (K.got out.old) (K.got out.new) bytes (bytes ++ block.now)) }
-        ensures stopped { IfErr result (λ reason. (bytes : List ℕ) → Reads self.old bytes
-            → Stopped self.old.channel.setup reason (K.got out.old) (K.got out.new) bytes (bytes ++ block.now)) }
-        ensures kind { IfErr result IsOfRun }
-        ensures cause { IsStopOf (K.faults out.old) (K.faults out.new) result }
+        ensures stopped { IfErr result (λ why. (bytes : List ℕ) → Reads self.old bytes
+            → StoppedAt (decoding_of self.old) why (written_by self.old (K.got out.old)) (written_by self.new (K.got out.new)) bytes (bytes ++ block.now)) }
+        ensures output { StopCounted result (K.faults out.old) (K.faults out.new) }
     {
         let mut rest = block;
         'bytes: while !rest.is_empty() {
@@ -87,43 +172,98 @@ impl Run {
         Ok(())
     }
 
-    /// The input has ended: takes what its unfinished last line is, and puts the lines of what it ends.
-    fn put_last<K: Sink>(&mut self, out: &mut K) -> Result<(), Reason>
-        requires room { self.old.channel.number < 2 ^ 60 }
+    /// Takes the bytes of a pull, and puts the lines of what they end.
+    pub fn take_pull<K: Sink>(&mut self, block: &[u8], out: &mut K) -> Result<(), Reason>
+        requires gathered { self.old.text ≡ [] }
         requires reads { (bytes : List ℕ) × Reads self.old bytes }
-        ensures setup { self.new.channel.setup ≡ self.old.channel.setup }
-        ensures number { self.new.channel.number ≤ self.old.channel.number + 16 }
-        ensures follows { OnOk result ((bytes : List ℕ) → Reads self.old bytes → Follows self.new.channel (whole_edges_of bytes)) }
-        ensures put { (bytes : List ℕ) → Reads self.old bytes → LastPut self.old.channel.setup result (K.got out.old) (K.got out.new) bytes }
-        ensures kind { IfErr result IsOfRun }
-        ensures cause { IsStopOf (K.faults out.old) (K.faults out.new) result }
+        ensures decoding { decoding_of self.new ≡ decoding_of self.old }
+        ensures gathered { OnOk result (self.new.text ≡ []) }
+        ensures took { OnOk result ((bytes : List ℕ) → Reads self.old bytes → TookPull self.old self.new (K.got out.old) (K.got out.new) bytes (bytes ++ block.now)) }
+        ensures stopped { IfErr result (λ why. (bytes : List ℕ) → Reads self.old bytes → Stopped (decoding_of self.old) why (K.got out.old) (K.got out.new) bytes (bytes ++ block.now)) }
+        ensures output { PartCounted result (K.faults out.old) (K.faults out.new) }
+    {
+        match self.take_block(block, out) {
+            Err(Stop::Put) => Err(Reason::WriteFault { lane: None }),
+            Err(Stop::Line { number, fault }) => match self.text.put(out) {
+                Err(Failed) => Err(Reason::WriteFault { lane: None }),
+                Ok(()) => Err(Reason::Input {
+                    line: number,
+                    fault,
+                }),
+            },
+            Ok(()) => match self.text.put(out) {
+                Err(Failed) => Err(Reason::WriteFault { lane: None }),
+                Ok(()) => Ok(()),
+            },
+        }
+    }
+
+    /// The input has ended: takes what its unfinished last line is, and writes the lines of what it ends.
+    fn take_last<K: Sink>(&mut self, out: &mut K) -> Result<(), Stop>
+        requires { (bytes : List ℕ) × Reads self.old bytes }
+        ensures decoding { decoding_of self.new ≡ decoding_of self.old }
+        ensures follow { OnOk result ((bytes : List ℕ) → Reads self.old bytes → AllFollow self.new.channels.items (whole_edges_of bytes)) }
+        ensures taken { (bytes : List ℕ) → Reads self.old bytes → LastTaken (decoding_of self.old) result (written_by self.old (K.got out.old)) (written_by self.new (K.got out.new)) bytes }
+        ensures output { StopCounted result (K.faults out.old) (K.faults out.new) }
     {
         match self.lines.finish() {
             None => Ok(()),
-            Some(Ok(row)) => match self.channel.put_row(&row.edges, out) {
+            Some(Ok(row)) => match self.put_row(&row.edges, out) {
                 Ok(()) => Ok(()),
-                Err(Failed) => Err(Reason::WriteFault { lane: None }),
+                Err(Failed) => Err(Stop::Put),
             },
-            Some(Err(fault)) => Err(Reason::Input {
-                line: self.lines.line_number(),
+            Some(Err(fault)) => Err(Stop::Line {
+                number: self.lines.line_number(),
                 fault,
             }),
         }
     }
 
-    /// The input has ended: takes what its unfinished last line is, puts the total line, and says how the
-    /// run ended.
+    /// Hands the end to the channels, and puts what is gathered, their last lines and the total lines.
+    fn put_end<K: Sink>(&mut self, out: &mut K) -> Result<(), Failed>
+        requires { (edges : List Edge) × AllFollow self.old.channels.items edges × (length edges < 2 ^ 60) }
+        ensures setups { setups_of self.new.channels.items ≡ setups_of self.old.channels.items }
+        ensures counted { OnOk result ((edges : List Edge) → AllFollow self.old.channels.items edges → AllCounted self.new.channels.items edges) }
+        ensures written { OnOk result ((edges : List Edge) → AllFollow self.old.channels.items edges
+            → GrowsAlong (written_by self.old (K.got out.old)) (put_out (K.got out.new)) (text_so_far (decoding_of self.old) edges) (whole_text (decoding_of self.old) edges)) }
+        ensures cut { OnErr result ((edges : List Edge) → AllFollow self.old.channels.items edges
+            → GrowsTowards (written_by self.old (K.got out.old)) (K.got out.new) (text_so_far (decoding_of self.old) edges) (whole_text (decoding_of self.old) edges)) }
+        ensures cause { HasCause (K.faults out.old) (K.faults out.new) result }
+    {
+        put_end(
+            self.channels.as_mut_slice(),
+            self.told,
+            &mut self.reports,
+            &mut self.text,
+            out,
+        )
+    }
+
+    /// The input has ended: takes what its unfinished last line is, puts the last lines and the total lines,
+    /// and says how the run ended.
     pub fn finish<K: Sink>(&mut self, out: &mut K) -> Reason
-        requires room { self.old.channel.number + 16 < 2 ^ 60 }
+        requires gathered { self.old.text ≡ [] }
         requires reads { (bytes : List ℕ) × Reads self.old bytes }
         ensures kind { IsOfRun result }
-        ensures ends { (bytes : List ℕ) → Reads self.old bytes → Finished self.old.channel.setup result (K.got out.old) (K.got out.new) bytes }
-        ensures later { K.faults out.old ≤ K.faults out.new }
-        ensures write { (lane : Option ℕ) → result ≡ reason.WriteFault lane → (lane ≡ None) × Rose (K.faults out.old) (K.faults out.new) }
+        ensures ends { (bytes : List ℕ) → Reads self.old bytes → Finished (decoding_of self.old) result (K.got out.old) (K.got out.new) bytes }
+        ensures output { OutputCounted result (K.faults out.old) (K.faults out.new) }
     {
-        match self.put_last(out) {
-            Err(reason) => reason,
-            Ok(()) => self.channel.finish(out),
+        match self.take_last(out) {
+            Err(Stop::Put) => Reason::WriteFault { lane: None },
+            Err(Stop::Line { number, fault }) => Reason::Input {
+                line: number,
+                fault,
+            },
+            Ok(()) => match self.put_end(out) {
+                Err(Failed) => Reason::WriteFault { lane: None },
+                Ok(()) => {
+                    if are_marked(self.channels.as_slice()) {
+                        Reason::Marked
+                    } else {
+                        Reason::Clean
+                    }
+                }
+            },
         }
     }
 }

@@ -1,6 +1,7 @@
 //! Whole runs in memory: what no clause says, that the definitions are the texts which were meant.
 
 mod broken;
+mod channels;
 mod lists;
 mod messages;
 mod refused;

@@ -1,6 +1,8 @@
-//! The words that ask for a text about the program.
+//! The words that ask for a text about the program, and these texts.
 ghost use Rattle.std.specs.Prelude.{◌≡◌, map, string_bytes};
-ghost use Rattle.pulselink.specs.About.{word_asks, words_ask};
+ghost use Rattle.pulselink.specs.About.{about_text, word_asks, words_ask};
+
+use crate::help::HELP;
 
 /// A text about the program.
 #[derive(Clone, Copy, Debug, PartialEq, Eq)]
@@ -9,6 +11,21 @@ pub enum About {
     Help,
     /// Its name and version.
     Version,
+}
+
+/// The name of the program and its version, with an LF.
+pub const VERSION: &str = "pulselink 0.1.0\n";
+
+impl About {
+    /// The text, with an LF at its end.
+    pub fn text(self) -> &'static str
+        ensures { result.now ≡ about_text self }
+    {
+        match self {
+            About::Help => HELP,
+            About::Version => VERSION,
+        }
+    }
 }
 
 /// The text that a word asks for.

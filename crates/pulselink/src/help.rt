@@ -4,14 +4,16 @@
 pub const HELP: &str = "\
 pulselink: decodes edge lists of automotive sensor links
 
-usage: pulselink decode SPEC < EDGES
+usage: pulselink decode SPEC.. < EDGES
+       pulselink check SPEC.. < EDGES
        pulselink --help | -h
        pulselink --version | -V
 
 decode writes a line for each frame, value, serial message and violated rule,
-and then the channel's total line.
+and then a total line for each channel; check writes the total lines alone.
 
-SPEC names one channel: a kind, a colon and pairs KEY=VALUE parted by commas.
+SPEC names a channel: a kind, a colon and pairs KEY=VALUE parted by commas.
+There are 1 to 16 SPECs; the first is channel 00. Channels may share a line.
   sent:line=N   a SENT channel (SAE J2716); its keys, with what is usual:
     line      0 to 15                                  must be there
     tick      3000 to 90000, in ns                     3000
@@ -41,8 +43,21 @@ statuses
   5   writing failed                     write fault
   6   there is no memory                 out of memory
 
+faults of a word
+  Missing   it has to be there            Value     the value is out of its range
+  Command   no command                    Absent    a key that must be there isn't
+  Kind      no kind of channel            Setup     the values don't go together
+  Key       no such key, or it is there   Channels  the seventeenth SPEC
+            before, or has no =           NotBuilt  not built yet
+faults of a line of the input
+  Field     wrong number of fields        TimeBack      earlier than the row before
+  Number    a time or line is no number   TooLarge      above 10^15 ns
+  Line      a line above 15               LineTooLong   more than 512 bytes
+  Level     neither 0 nor 1               InputTooLong  2^36 bytes or more
+  Version   line 1 is no version line
+
 examples
   pulselink decode sent:line=0 < examples/three_frames.txt
   pulselink decode sent:line=0,serial=short < examples/short_message.txt
-  printf '0,0,1\\n' | pulselink decode sent:line=0
-  pulselink decode sent:line=3 < capture.csv > reports.txt";
+  pulselink check sent:line=0 sent:line=1 < examples/three_frames_wide.csv
+";

@@ -27,13 +27,13 @@ const WHOLE: &str = "00 19 bad Check\n00 37 frame 0 000000\n\
     00 total good 1 bad 1 messages 0 gaps 0 lost 0\n";
 
 /// A pull failed.
-const READ_FAULT: Plain = Plain {
+pub(super) const READ_FAULT: Plain = Plain {
     status: 4,
     reason: Reason::ReadFault,
 };
 
 /// A put failed.
-const WRITE_FAULT: Plain = Plain {
+pub(super) const WRITE_FAULT: Plain = Plain {
     status: 5,
     reason: Reason::WriteFault { lane: None },
 };

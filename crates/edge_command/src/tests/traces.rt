@@ -1,6 +1,6 @@
 //! Lists of falls on one line, and the reports on them.
 
-use super::{CLEAN, FRAME_TEXT, MARKED, NO_REPORT, Trial, expect};
+use super::{CLEAN, FRAME, FRAME_TEXT, MARKED, NO_REPORT, Trial, decode, expect};
 use crate::Plain;
 use std::alloc::{AllocError, Global};
 use std::process::Abort;
@@ -276,6 +276,49 @@ fn each_layout_has_its_line(rt: HostRuntime) -> Result<(), AllocError> {
             written,
         };
         expect_each(&rt, rt.alloc(), &[case])?;
+    }
+    Ok(())
+}
+
+#[test]
+fn a_frame_is_read_on_each_line(rt: HostRuntime) -> Result<(), AllocError> {
+    for line in 0..16u8 {
+        let words = format!(in rt.alloc(); "decode sent:line={line}")?;
+        let mut list = String::new(rt.alloc());
+        for row in FRAME.lines() {
+            if let Some((time, level)) = row.split_once(",0,") {
+                write!(list, "{time},{line},{level}\n")?;
+            }
+        }
+        let trial = Trial {
+            words: words.as_str(),
+            input: list.as_str(),
+            piece: 4_096,
+            pull: 0,
+            put: 0,
+        };
+        expect(&rt, rt.alloc(), trial, CLEAN, FRAME_TEXT)?;
+    }
+    Ok(())
+}
+
+#[test]
+fn each_key_may_be_said_with_its_usual_value(rt: HostRuntime) -> Result<(), AllocError> {
+    for pair in [
+        "tick=3000",
+        "jitter=300",
+        "nibbles=6",
+        "pause=no",
+        "crc=new",
+        "layout=raw",
+        "serial=none",
+    ] {
+        let words = format!(in rt.alloc(); "decode sent:{pair},line=0")?;
+        let trial = Trial {
+            words: words.as_str(),
+            ..decode(FRAME)
+        };
+        expect(&rt, rt.alloc(), trial, CLEAN, FRAME_TEXT)?;
     }
     Ok(())
 }

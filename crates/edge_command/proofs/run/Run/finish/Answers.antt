@@ -1,17 +1,45 @@
-use Rattle.std.proofs.Common.{subst}
+-- The last line is taken, and then the end.
+use Rattle.std.proofs.Common.{◌∙◌, List, [], ap, arith, sym, append-nil}
 use Rattle.receiver_core.specs.declared.setup.ChannelSetup.{ChannelSetup}
 use Rattle.edge_trace.specs.Limits.{whole_edges_of}
-use Rattle.edge_command.specs.Totals.{Totalled}
-use Rattle.edge_command.proofs.Ends.{finished-early, finished-late}
+use Rattle.edge_trace.proofs.OrderedLists.{whole_edges_are_few}
+use Rattle.edge_command.specs.Channels.{Decoding, is_marked}
+use Rattle.edge_command.specs.Runs.{decoding_of}
+use Rattle.edge_command.proofs.Writing.{cut-longer}
+use Rattle.edge_command.proofs.Fronts.{input-front}
+use Rattle.edge_command.proofs.Runs.{towards-from, end-grows, end-cuts}
 use Rattle.edge_command.proofs.run.Run.finish.Goals as goal
 
-pub finish-requires-clause-follows : goal.finish-requires-clause-follows
-finish-requires-clause-follows g c = (whole_edges_of c.requires.reads.0, c.in-Ok.ensures.follows c.requires.reads.0 c.requires.reads.1)
+pub put_end-requires : goal.put_end-requires
+put_end-requires g c =
+    let bytes = c.requires.reads.0 in
+    (whole_edges_of bytes, c.in-Ok.ensures.follow bytes c.requires.reads.1, (let few = whole_edges_are_few bytes in omega arith))
+
+pub returns-in-Err-Put-clause-ends : goal.returns-in-Err-Put-clause-ends
+returns-in-Err-Put-clause-ends g c = λ bytes before.
+    let decoding = decoding_of c.args.self.now in
+    cut-longer _ _ _ _ _ (towards-from _ _ _ _ _ c.requires.gathered (rw c.in-Err-Put.field-0-is at (c.in-Err-Put.ensures.taken bytes before)))
+    (input-front decoding bytes (whole_edges_of bytes) [] (sym (append-nil (whole_edges_of bytes))))
 
 pub returns-in-Err-clause-ends : goal.returns-in-Err-clause-ends
-returns-in-Err-clause-ends g c = λ bytes before. finished-early c.args.self.now.channel.setup c.in-Err.reason _ _ bytes (c.in-Err.ensures.put bytes before)
+returns-in-Err-clause-ends g c = λ bytes before.
+    let last = c.in-Ok.ensures.taken bytes before in
+    end-cuts (decoding_of c.args.self.now) _ _ _ _ bytes c.requires.gathered last.0 last.1 c.take_last.ensures.decoding (c.in-Err.ensures.cut (whole_edges_of bytes) (c.in-Ok.ensures.follow bytes before))
 
-pub returns-in-Ok-clause-ends : goal.returns-in-Ok-clause-ends
-returns-in-Ok-clause-ends g c = λ bytes before.
-    finished-late c.args.self.now.channel.setup c.finish.result _ (g.K.Sink.got c.put_last.new.out) _ bytes (c.in-Ok.ensures.put bytes before)
-    (subst (λ (setup : ChannelSetup). Totalled setup c.finish.result (g.K.Sink.got c.put_last.new.out) (g.K.Sink.got c.finish.new.out) (whole_edges_of bytes)) c.in-Ok.ensures.setup (c.finish.ensures.ends (whole_edges_of bytes) (c.in-Ok.ensures.follows bytes before)))
+pub returns-then-are_marked-clause-ends : goal.returns-then-are_marked-clause-ends
+returns-then-are_marked-clause-ends g c = λ bytes before.
+    let last = c.in-Ok.ensures.taken bytes before in (
+      last.0,
+      sym (ap (λ (setups : List ChannelSetup). is_marked setups (whole_edges_of bytes)) (c.put_end.ensures.setups ∙ ap (λ (d : Decoding). d.setups) c.take_last.ensures.decoding))
+          ∙ sym ((rw c.as_slice.ensures.value at c.are_marked.ensures) (whole_edges_of bytes) (c.in-Ok-put_end.ensures.counted (whole_edges_of bytes) (c.in-Ok.ensures.follow bytes before))) ∙ c.if-are_marked.true,
+      end-grows (decoding_of c.args.self.now) _ _ _ _ bytes c.requires.gathered last.1 c.take_last.ensures.decoding (c.in-Ok-put_end.ensures.written (whole_edges_of bytes) (c.in-Ok.ensures.follow bytes before)),
+    )
+
+pub returns-else-are_marked-clause-ends : goal.returns-else-are_marked-clause-ends
+returns-else-are_marked-clause-ends g c = λ bytes before.
+    let last = c.in-Ok.ensures.taken bytes before in (
+      last.0,
+      sym (ap (λ (setups : List ChannelSetup). is_marked setups (whole_edges_of bytes)) (c.put_end.ensures.setups ∙ ap (λ (d : Decoding). d.setups) c.take_last.ensures.decoding))
+          ∙ sym ((rw c.as_slice.ensures.value at c.are_marked.ensures) (whole_edges_of bytes) (c.in-Ok-put_end.ensures.counted (whole_edges_of bytes) (c.in-Ok.ensures.follow bytes before))) ∙ c.if-are_marked.false,
+      end-grows (decoding_of c.args.self.now) _ _ _ _ bytes c.requires.gathered last.1 c.take_last.ensures.decoding (c.in-Ok-put_end.ensures.written (whole_edges_of bytes) (c.in-Ok.ensures.follow bytes before)),
+    )

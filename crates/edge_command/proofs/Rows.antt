@@ -1,0 +1,26 @@
+-- Rows whose edges are taken, one after another.
+use Rattle.std.proofs.Common.{◌≡◌, List, [], ◌∷◌, ◌++◌, Bool, true, false, refl, ap, sym, subst, ◌∙◌, append_assoc}
+use Rattle.line_base.specs.declared.edge.Edge.{Edge}
+use Rattle.receiver_core.specs.declared.setup.ChannelSetup.{ChannelSetup}
+use Rattle.edge_command.specs.declared.channel.Channel.{Channel}
+use Rattle.edge_command.specs.Channels.{edge_lines, lines_behind, told_lines}
+use Rattle.edge_command.specs.Followed.{AllFollow}
+use Rattle.edge_command.proofs.Writing.{told-then}
+
+-- no edge adds no line
+pub row-none : (told : Bool) (setups : List ChannelSetup) (edges row : List Edge) → row ≡ [] → [] ≡ told_lines told (lines_behind setups edges row)
+unfolding lines_behind
+row-none true setups edges row none = sym (ap (lines_behind setups edges) none)
+row-none false setups edges row none = refl
+
+-- the lines of a row, by its first edge and by the others
+pub row-parts : (told : Bool) (setups : List ChannelSetup) (edges row rest : List Edge) (edge : Edge) → row ≡ edge ∷ rest
+    → told_lines told (lines_behind setups edges row) ≡ told_lines told (edge_lines 0 setups edges edge) ++ told_lines told (lines_behind setups (edges ++ edge ∷ []) rest)
+unfolding lines_behind
+row-parts told setups edges row rest edge parts =
+    ap (λ r. told_lines told (lines_behind setups edges r)) parts ∙ sym (told-then told (edge_lines 0 setups edges edge) (lines_behind setups (edges ++ edge ∷ []) rest))
+
+-- channels that have taken them all have taken the row
+pub row-follow : (channels : List Channel) (edges row rest : List Edge) (edge : Edge) → row ≡ edge ∷ rest → AllFollow channels ((edges ++ edge ∷ []) ++ rest) → AllFollow channels (edges ++ row)
+row-follow channels edges row rest edge parts follow =
+    subst (λ (es : List Edge). AllFollow channels es) (append_assoc edges (edge ∷ []) rest ∙ ap (λ r. edges ++ r) (sym parts)) follow

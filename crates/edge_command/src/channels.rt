@@ -1,0 +1,299 @@
+//! A list of channels: each edge is handed to each of them in order, and what they tell is written.
+ghost use Rattle.std.specs.Prelude.{◌≡◌, ◌+◌, ◌^◌, ◌<◌, ◌≤◌, ◌++◌, [], ◌∷◌, List, ℕ, Bool, true, false, Option, None, All, IfOk, OnOk, OnErr, length, map};
+ghost use Rattle.line_base.specs.Causes.{HasCause};
+ghost use Rattle.line_base.specs.declared.edge.Edge.{Edge};
+ghost use Rattle.receiver_core.specs.Setups.{setup_fault_of};
+ghost use Rattle.receiver_core.specs.declared.setup.ChannelSetup.{ChannelSetup};
+ghost use Rattle.edge_command.specs.Channels.{edge_lines, end_lines, final_on, has_marks, is_marked, lines_of, reports_added, reports_of_end, told_lines, total_lines};
+ghost use Rattle.edge_command.specs.Followed.{AllCounted, AllFollow, Follows, setups_of};
+ghost use Rattle.receiver_core.specs.Tallies.{tally_of};
+ghost use Rattle.edge_command.specs.Texts.{report_line, total_line};
+ghost use Rattle.edge_command.specs.Writes.{Takes, TakesFront};
+
+use crate::channel::Channel;
+use crate::gathered::Gathered;
+use crate::report::{LINE_ROOM, TOTAL_ROOM, write_report, write_total};
+use arrayvec::{ArrayString, ArrayVec};
+use line_base::{Edge, Failed, Sink};
+use receiver_core::{ChannelSetup, Report, Tally};
+use std::alloc::{AllocError, Global};
+
+/// Channels of these setups, none of which has a fault, that have taken no edge; or the error where there is
+/// no memory for them.
+pub fn channels_of(alloc: Global, setups: &[ChannelSetup]) -> Result<Vec<Channel>, AllocError>
+    requires { All (λ setup. setup_fault_of setup ≡ None) setups.now }
+    ensures setups { IfOk result (λ channels. setups_of channels.items ≡ setups.now) }
+    ensures follow { IfOk result (λ channels. AllFollow channels.items []) }
+{
+    let mut channels = Vec::with_capacity(alloc, setups.len())?;
+    let mut rest = setups;
+    'setups: while let Some((setup, others)) = rest.split_first() {
+        channels.push(Channel::new(setup))?;
+        rest = others;
+    }
+    Ok(channels)
+}
+
+/// Writes the line of a report of the channel with this number, 0 to 15.
+fn write_line<K: Sink>(
+    number: u8,
+    report: &Report,
+    text: &mut Gathered,
+    out: &mut K,
+) -> Result<(), Failed>
+    requires { number < 16 }
+    ensures written { OnOk result (Takes (record { got = K.got out.old; gathered = text.old }) (record { got = K.got out.new; gathered = text.new }) (report_line number report.now)) }
+    ensures cut { OnErr result (TakesFront (record { got = K.got out.old; gathered = text.old }) (K.got out.new) (report_line number report.now)) }
+    ensures cause { HasCause (K.faults out.old) (K.faults out.new) result }
+{
+    let mut line = ArrayString::<LINE_ROOM>::new();
+    write_report(number, report, &mut line);
+    text.add(line.as_str().as_bytes(), out)
+}
+
+/// Writes the total line of the channel with this number, 0 to 15.
+fn write_total_line<K: Sink>(
+    number: u8,
+    tally: &Tally,
+    text: &mut Gathered,
+    out: &mut K,
+) -> Result<(), Failed>
+    requires { number < 16 }
+    ensures written { OnOk result (Takes (record { got = K.got out.old; gathered = text.old }) (record { got = K.got out.new; gathered = text.new }) (total_line number tally.now)) }
+    ensures cut { OnErr result (TakesFront (record { got = K.got out.old; gathered = text.old }) (K.got out.new) (total_line number tally.now)) }
+    ensures cause { HasCause (K.faults out.old) (K.faults out.new) result }
+{
+    let mut line = ArrayString::<TOTAL_ROOM>::new();
+    write_total(number, tally, &mut line);
+    text.add(line.as_str().as_bytes(), out)
+}
+
+/// Writes the lines of these reports of the channel with this number, 0 to 15.
+fn write_reports<K: Sink>(
+    number: u8,
+    reports: &[Report],
+    text: &mut Gathered,
+    out: &mut K,
+) -> Result<(), Failed>
+    requires { number < 16 }
+    ensures written { OnOk result (Takes (record { got = K.got out.old; gathered = text.old }) (record { got = K.got out.new; gathered = text.new }) (lines_of number reports.now)) }
+    ensures cut { OnErr result (TakesFront (record { got = K.got out.old; gathered = text.old }) (K.got out.new) (lines_of number reports.now)) }
+    ensures cause { HasCause (K.faults out.old) (K.faults out.new) result }
+{
+    match reports.split_first() {
+        None => Ok(()),
+        Some((report, others)) => {
+            write_line(number, report, text, out)?;
+            write_reports(number, others, text, out)
+        }
+    }
+}
+
+/// Writes the lines of reports, where lines are told, and drops the reports.
+fn tell<K: Sink>(
+    told: bool,
+    number: u8,
+    reports: &mut ArrayVec<Report, 8>,
+    text: &mut Gathered,
+    out: &mut K,
+) -> Result<(), Failed>
+    requires { number < 16 }
+    ensures dropped { reports.new.items ≡ [] }
+    ensures written { OnOk result (Takes (record { got = K.got out.old; gathered = text.old }) (record { got = K.got out.new; gathered = text.new }) (told_lines told (lines_of number reports.old.items))) }
+    ensures cut { OnErr result (TakesFront (record { got = K.got out.old; gathered = text.old }) (K.got out.new) (told_lines told (lines_of number reports.old.items))) }
+    ensures cause { HasCause (K.faults out.old) (K.faults out.new) result }
+{
+    if !told {
+        reports.clear();
+        return Ok(());
+    }
+    let result = write_reports(number, reports.as_slice(), text, out);
+    reports.clear();
+    result
+}
+
+/// Hands the next edge of the list to the channel with this number, and writes the lines of what it reports.
+#[inline]
+fn take_edge_on<K: Sink>(
+    channel: &mut Channel,
+    told: bool,
+    number: u8,
+    edge: Edge,
+    reports: &mut ArrayVec<Report, 8>,
+    text: &mut Gathered,
+    out: &mut K,
+) -> Result<(), Failed>
+    requires number { number < 16 }
+    requires in_range { edge.time ≤ 10 ^ 15 }
+    requires empty { reports.old.items ≡ [] }
+    requires follows { (edges : List Edge) × Follows channel.old edges × (length edges < 2 ^ 60) }
+    ensures setup { channel.new.setup ≡ channel.old.setup }
+    ensures empty { reports.new.items ≡ [] }
+    ensures follows { (edges : List Edge) → Follows channel.old edges → Follows channel.new (edges ++ edge ∷ []) }
+    ensures written { OnOk result ((edges : List Edge) → Follows channel.old edges
+        → Takes (record { got = K.got out.old; gathered = text.old }) (record { got = K.got out.new; gathered = text.new }) (told_lines told (lines_of number (reports_added channel.old.setup edges edge)))) }
+    ensures cut { OnErr result ((edges : List Edge) → Follows channel.old edges
+        → TakesFront (record { got = K.got out.old; gathered = text.old }) (K.got out.new) (told_lines told (lines_of number (reports_added channel.old.setup edges edge)))) }
+    ensures cause { HasCause (K.faults out.old) (K.faults out.new) result }
+{
+    channel.take_edge(edge, reports);
+    if reports.is_empty() {
+        return Ok(());
+    }
+    tell(told, number, reports, text, out)
+}
+
+/// Hands the end to the channel with this number, and writes the lines of what it reports.
+fn take_end_on<K: Sink>(
+    channel: &mut Channel,
+    told: bool,
+    number: u8,
+    reports: &mut ArrayVec<Report, 8>,
+    text: &mut Gathered,
+    out: &mut K,
+) -> Result<(), Failed>
+    requires number { number < 16 }
+    requires empty { reports.old.items ≡ [] }
+    requires follows { (edges : List Edge) × Follows channel.old edges × (length edges < 2 ^ 60) }
+    ensures setup { channel.new.setup ≡ channel.old.setup }
+    ensures empty { reports.new.items ≡ [] }
+    ensures counted { (edges : List Edge) → Follows channel.old edges → channel.new.tally ≡ tally_of (final_on channel.old.setup edges) }
+    ensures written { OnOk result ((edges : List Edge) → Follows channel.old edges
+        → Takes (record { got = K.got out.old; gathered = text.old }) (record { got = K.got out.new; gathered = text.new }) (told_lines told (lines_of number (reports_of_end channel.old.setup edges)))) }
+    ensures cut { OnErr result ((edges : List Edge) → Follows channel.old edges
+        → TakesFront (record { got = K.got out.old; gathered = text.old }) (K.got out.new) (told_lines told (lines_of number (reports_of_end channel.old.setup edges)))) }
+    ensures cause { HasCause (K.faults out.old) (K.faults out.new) result }
+{
+    channel.take_end(reports);
+    tell(told, number, reports, text, out)
+}
+
+/// Hands the next edge of the list to each of these channels in order, of which the first has this number,
+/// and writes the lines of what they report.
+pub fn take_edge<K: Sink>(
+    channels: &mut [Channel],
+    told: bool,
+    number: u8,
+    edge: Edge,
+    reports: &mut ArrayVec<Report, 8>,
+    text: &mut Gathered,
+    out: &mut K,
+) -> Result<(), Failed>
+    requires few { number + length channels.old ≤ 16 }
+    requires in_range { edge.time ≤ 10 ^ 15 }
+    requires empty { reports.old.items ≡ [] }
+    requires follow { (edges : List Edge) × AllFollow channels.old edges × (length edges < 2 ^ 60) }
+    ensures setups { setups_of channels.new ≡ setups_of channels.old }
+    ensures empty { reports.new.items ≡ [] }
+    ensures follow { OnOk result ((edges : List Edge) → AllFollow channels.old edges → AllFollow channels.new (edges ++ edge ∷ [])) }
+    ensures written { OnOk result ((edges : List Edge) → AllFollow channels.old edges
+        → Takes (record { got = K.got out.old; gathered = text.old }) (record { got = K.got out.new; gathered = text.new }) (told_lines told (edge_lines number (setups_of channels.old) edges edge))) }
+    ensures cut { OnErr result ((edges : List Edge) → AllFollow channels.old edges
+        → TakesFront (record { got = K.got out.old; gathered = text.old }) (K.got out.new) (told_lines told (edge_lines number (setups_of channels.old) edges edge))) }
+    ensures cause { HasCause (K.faults out.old) (K.faults out.new) result }
+{
+    match channels.split_first_mut() {
+        None => Ok(()),
+        Some((channel, others)) => {
+            take_edge_on(channel, told, number, edge, reports, text, out)?;
+            take_edge(others, told, number + 1, edge, reports, text, out)
+        }
+    }
+}
+
+/// Hands the end to each of these channels in order, of which the first has this number, and writes the
+/// lines of what they report.
+pub fn take_end<K: Sink>(
+    channels: &mut [Channel],
+    told: bool,
+    number: u8,
+    reports: &mut ArrayVec<Report, 8>,
+    text: &mut Gathered,
+    out: &mut K,
+) -> Result<(), Failed>
+    requires few { number + length channels.old ≤ 16 }
+    requires empty { reports.old.items ≡ [] }
+    requires follow { (edges : List Edge) × AllFollow channels.old edges × (length edges < 2 ^ 60) }
+    ensures setups { setups_of channels.new ≡ setups_of channels.old }
+    ensures empty { reports.new.items ≡ [] }
+    ensures counted { OnOk result ((edges : List Edge) → AllFollow channels.old edges → AllCounted channels.new edges) }
+    ensures written { OnOk result ((edges : List Edge) → AllFollow channels.old edges
+        → Takes (record { got = K.got out.old; gathered = text.old }) (record { got = K.got out.new; gathered = text.new }) (told_lines told (end_lines number (setups_of channels.old) edges))) }
+    ensures cut { OnErr result ((edges : List Edge) → AllFollow channels.old edges
+        → TakesFront (record { got = K.got out.old; gathered = text.old }) (K.got out.new) (told_lines told (end_lines number (setups_of channels.old) edges))) }
+    ensures cause { HasCause (K.faults out.old) (K.faults out.new) result }
+{
+    match channels.split_first_mut() {
+        None => Ok(()),
+        Some((channel, others)) => {
+            take_end_on(channel, told, number, reports, text, out)?;
+            take_end(others, told, number + 1, reports, text, out)
+        }
+    }
+}
+
+/// Writes the total line of each of these channels in order, of which the first has this number.
+pub fn write_totals<K: Sink>(
+    channels: &[Channel],
+    number: u8,
+    text: &mut Gathered,
+    out: &mut K,
+) -> Result<(), Failed>
+    requires { number + length channels.now ≤ 16 }
+    ensures written { OnOk result ((edges : List Edge) → AllCounted channels.now edges
+        → Takes (record { got = K.got out.old; gathered = text.old }) (record { got = K.got out.new; gathered = text.new }) (total_lines number (setups_of channels.now) edges)) }
+    ensures cut { OnErr result ((edges : List Edge) → AllCounted channels.now edges
+        → TakesFront (record { got = K.got out.old; gathered = text.old }) (K.got out.new) (total_lines number (setups_of channels.now) edges)) }
+    ensures cause { HasCause (K.faults out.old) (K.faults out.new) result }
+{
+    match channels.split_first() {
+        None => Ok(()),
+        Some((channel, others)) => {
+            write_total_line(number, &channel.tally, text, out)?;
+            write_totals(others, number + 1, text, out)
+        }
+    }
+}
+
+/// Hands the end to these channels, at most 16, writes the lines of what they report and their total lines,
+/// and puts all that is gathered.
+pub fn put_end<K: Sink>(
+    channels: &mut [Channel],
+    told: bool,
+    reports: &mut ArrayVec<Report, 8>,
+    text: &mut Gathered,
+    out: &mut K,
+) -> Result<(), Failed>
+    requires few { length channels.old ≤ 16 }
+    requires empty { reports.old.items ≡ [] }
+    requires follow { (edges : List Edge) × AllFollow channels.old edges × (length edges < 2 ^ 60) }
+    ensures setups { setups_of channels.new ≡ setups_of channels.old }
+    ensures empty { reports.new.items ≡ [] }
+    ensures counted { OnOk result ((edges : List Edge) → AllFollow channels.old edges → AllCounted channels.new edges) }
+    ensures written { OnOk result ((edges : List Edge) → AllFollow channels.old edges
+        → Takes (record { got = K.got out.old; gathered = text.old }) (record { got = K.got out.new; gathered = [] }) (told_lines told (end_lines 0 (setups_of channels.old) edges) ++ total_lines 0 (setups_of channels.old) edges)) }
+    ensures cut { OnErr result ((edges : List Edge) → AllFollow channels.old edges
+        → TakesFront (record { got = K.got out.old; gathered = text.old }) (K.got out.new) (told_lines told (end_lines 0 (setups_of channels.old) edges) ++ total_lines 0 (setups_of channels.old) edges)) }
+    ensures cause { HasCause (K.faults out.old) (K.faults out.new) result }
+{
+    take_end(channels, told, 0, reports, text, out)?;
+    write_totals(channels, 0, text, out)?;
+    text.put(out)
+}
+
+/// Whether a tally counts something bad, or a gap.
+fn has_marks(tally: &Tally) -> bool
+    ensures { result ≡ has_marks tally.now }
+{
+    tally.bad > 0 || tally.gaps > 0
+}
+
+/// Whether a channel has counted something bad, or a gap.
+pub fn are_marked(channels: &[Channel]) -> bool
+    ensures { (edges : List Edge) → AllCounted channels.now edges → result ≡ is_marked (setups_of channels.now) edges }
+{
+    match channels.split_first() {
+        None => false,
+        Some((channel, others)) => has_marks(&channel.tally) || are_marked(others),
+    }
+}
