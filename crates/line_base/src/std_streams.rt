@@ -31,7 +31,8 @@ impl<R: Read + Drop> Source for StdSource<R> {
 
     ghost faults = { source_faults };
 
-    /// Reads once. The fault is counted exactly where the read fails.
+    /// Reads once. A fault is counted where `Failed` is answered, and nowhere else; that std's reader failed
+    /// then is only tested.
     fn pull(&mut self, buf: &mut [u8]) -> Result<usize, Failed>
         requires { 0 < length buf.old }
         ensures bound { ReadsAtMost result buf.new }
