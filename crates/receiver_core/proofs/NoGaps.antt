@@ -23,7 +23,7 @@ use Rattle.receiver_core.specs.declared.setup.ChannelSetup.TheVariants.{Sent}
 use Rattle.receiver_core.specs.Serials.{serial_steps}
 use Rattle.receiver_core.specs.SentReports.{counter_reports, value_reports, serial_report, serial_reports, step_reports, last_counter, statuses_of, frames_with, sent_reports}
 use Rattle.receiver_core.specs.Channels.{stretch_reports, end_reports, reports_from, so_far, final}
-use Rattle.receiver_core.specs.Tallies.{is_gap, lost_in, TellNoGap}
+use Rattle.receiver_core.specs.Tallies.{counts_as, is_gap, lost_in, TellNoGap}
 
 tell-append : (xs ys : List Report) → TellNoGap xs → TellNoGap ys → TellNoGap (xs ++ ys)
 tell-append [] ys none more = more
@@ -105,18 +105,18 @@ pub final-tells : (setup : ChannelSetup) (edges : List Edge) → TellNoGap (fina
 unfolding final so_far
 final-tells setup edges = ends-tell setup 0 [] edges
 
-one-more_lost : (x : Report) (lost : ℕ) → lost_in x.what ≡ 0 → lost ≡ 0 → lost_in x.what + lost ≡ 0
+one-more_lost : (x : Report) (lost : ℕ) → lost_in (counts_as x.what) ≡ 0 → lost ≡ 0 → lost_in (counts_as x.what) + lost ≡ 0
 one-more_lost x lost none before = rw (none, before) refl
 
 -- so no edge is counted as lost
-pub none-lost : (reports : List Report) → TellNoGap reports → sum_by (λ report. lost_in report.what) reports ≡ 0
+pub none-lost : (reports : List Report) → TellNoGap reports → sum_by (λ report. lost_in (counts_as report.what)) reports ≡ 0
 none-lost [] tells = refl
-none-lost (x ∷ xs) (here, never, tells) = sum_by-cons (λ (report : Report). lost_in report.what) x xs ∙ one-more_lost x (sum_by (λ report. lost_in report.what) xs) here (none-lost xs tells)
+none-lost (x ∷ xs) (here, never, tells) = sum_by-cons (λ (report : Report). lost_in (counts_as report.what)) x xs ∙ one-more_lost x (sum_by (λ report. lost_in (counts_as report.what)) xs) here (none-lost xs tells)
 
-one-more_gap : (x : Report) (gaps : ℕ) → is_gap x.what ≡ false → gaps ≡ 0 → cond (is_gap x.what) 1 0 + gaps ≡ 0
+one-more_gap : (x : Report) (gaps : ℕ) → is_gap (counts_as x.what) ≡ false → gaps ≡ 0 → cond (is_gap (counts_as x.what)) 1 0 + gaps ≡ 0
 one-more_gap x gaps none before = rw (none, before) refl
 
 -- and no gap
-pub none-gaps : (reports : List Report) → TellNoGap reports → count_by (λ report. is_gap report.what) reports ≡ 0
+pub none-gaps : (reports : List Report) → TellNoGap reports → count_by (λ report. is_gap (counts_as report.what)) reports ≡ 0
 none-gaps [] tells = refl
-none-gaps (x ∷ xs) (here, never, tells) = sum_by-cons (λ (report : Report). cond (is_gap report.what) 1 0) x xs ∙ one-more_gap x (count_by (λ report. is_gap report.what) xs) never (none-gaps xs tells)
+none-gaps (x ∷ xs) (here, never, tells) = sum_by-cons (λ (report : Report). cond (is_gap (counts_as report.what)) 1 0) x xs ∙ one-more_gap x (count_by (λ report. is_gap (counts_as report.what)) xs) never (none-gaps xs tells)

@@ -24,9 +24,9 @@ pub record StandsFor (setup : ChannelSetup) (receiver : Receiver) (items : List 
   pub numbered : receiver.number ≡ edges_counted items
   pub reads : LinkStandsFor setup receiver.link (open_stretch items)
 
--- a receiver may be handed this item after so many edges: an edge at a time of at most 10^15 ns, and numbers of edges that stay below 2^64
+-- a reader may be handed this item after so many edges: an edge at a time of at most 10^15 ns, and numbers of edges that stay below 2^60
 abbrev pub IsTakeable : ℕ → Item → Type 0
-IsTakeable number (item.Edge edge) = (edge.time ≤ 10 ^ 15) × (number < 2 ^ 64 - 1)
-IsTakeable number (item.Gap first count) = number + count < 2 ^ 64
+IsTakeable number (item.Edge edge) = (edge.time ≤ 10 ^ 15) × (number < 2 ^ 60)
+IsTakeable number (item.Gap first count) = number + count ≤ 2 ^ 60
 IsTakeable number item.End = Unit {0}
 IsTakeable number item.Cut = Unit {0}

@@ -86,13 +86,18 @@ impl Link {
         }
     }
 
-    /// Takes the end of a whole list. It adds no report: a frame that is open at the end isn't whole.
-    fn end(&mut self)
+    /// Takes the end of a whole list, and adds the reports that it gives to none. A SENT channel gives none.
+    fn end(&mut self, reports: &mut ArrayVec<Report, 8>)
+        requires { reports.old.items ≡ [] }
         ensures stands { (setup : ChannelSetup) (number : ℕ) (stretch : Option (List NumberedEdge)) → LinkStandsFor setup self.old stretch
             → LinkStandsFor setup self.new (open_with number stretch Item.End) }
         ensures grows { (setup : ChannelSetup) (number : ℕ) (stretch : Option (List NumberedEdge)) → LinkStandsFor setup self.old stretch
-            → resumed setup number stretch (Item.End ∷ []) ≡ resumed setup number stretch [] }
+            → resumed setup number stretch (Item.End ∷ []) ≡ resumed setup number stretch [] ++ reports.new.items }
     {
+        match self {
+            // A frame that is open at the end isn't whole.
+            Link::Sent(_) | Link::Ended => {}
+        }
         *self = Link::Ended;
     }
 
@@ -122,8 +127,7 @@ impl Receiver {
     }
 
     /// Takes the next item of the channel, and gives the reports that come with it. An edge is on one of
-    /// the channel's lines, at a time of at most 10^15 ns; the number of edges, lost ones counted, stays
-    /// below 2^64.
+    /// the channel's lines, at a time of at most 10^15 ns; edges, lost ones counted, are at most 2^60.
     pub fn push(&mut self, item: Item) -> ArrayVec<Report, 8>
         requires { (setup : ChannelSetup) × (seen : List Item) × StandsFor setup self.old seen × IsTakeable (edges_counted seen) item }
         ensures stands { (setup : ChannelSetup) (seen : List Item) → StandsFor setup self.old seen → StandsFor setup self.new (seen ++ item ∷ []) }
@@ -153,7 +157,7 @@ impl Receiver {
                 self.number = number + count;
                 self.link.gap(first, count, reports);
             }
-            Item::End => self.link.end(),
+            Item::End => self.link.end(reports),
             Item::Cut => self.link.cut(),
         }
     }

@@ -30,7 +30,7 @@ returns-in-End-clause-stands c = λ setup seen before.
 
 pub returns-in-End-clause-grows : goal.returns-in-End-clause-grows
 returns-in-End-clause-grows c = λ setup seen before.
-    rw (c.in-End.is, c.requires.empty) (receiver-grows setup c.args.self.now seen item.End [] before (no-more setup c.args.self.now.number (open_stretch seen) item.End (c.end.ensures.grows setup c.args.self.now.number (open_stretch seen) before.reads)))
+    rw c.in-End.is (receiver-grows setup c.args.self.now seen item.End c.end.new.reports.items before (c.end.ensures.grows setup c.args.self.now.number (open_stretch seen) before.reads))
 
 pub returns-in-Cut-clause-stands : goal.returns-in-Cut-clause-stands
 returns-in-Cut-clause-stands c = λ setup seen before.
