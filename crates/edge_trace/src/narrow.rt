@@ -9,9 +9,9 @@ ghost use Rattle.edge_trace.specs.Readings.{form_of, IsForm, stamp_time, IsStamp
 use crate::digits::{level_of, number_of};
 use crate::form::Form;
 use crate::plain::plain_row;
-use crate::stamps::{MAX_TIME, time_in};
+use crate::stamps::time_in;
 use crate::texts::{cut, trimmed};
-use line_base::{Edge, LineFault};
+use line_base::{Edge, LineFault, MAX_TIME};
 
 /// The line number of a field, 0 to 15.
 #[inline]

@@ -6,5 +6,6 @@ pub mod Rules
 pub mod Faults
 pub mod Reasons
 pub mod Nibbles
+pub mod Edges
 pub mod Orderly
 pub mod Readers

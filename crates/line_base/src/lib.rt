@@ -18,7 +18,7 @@ mod std_streams;
 #[cfg(test)]
 mod tests;
 
-pub use edge::{Edge, Item, Span};
+pub use edge::{Edge, Item, MAX_TIME, Span};
 pub use faults::{Failed, LineFault, SetupFault, WordFault};
 pub use memory_sink::MemorySink;
 pub use memory_source::MemorySource;

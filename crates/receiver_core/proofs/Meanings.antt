@@ -5,13 +5,14 @@ use Rattle.std.specs.List.{All, last_or}
 use Rattle.std.proofs.lemmas.Bool.{eqb-false}
 use Rattle.std.proofs.lemmas.List.{map-append}
 use Rattle.std.proofs.lemmas.List.Elements.{All-append, All-cons, All-head, All-nil, All-tail}
+use Rattle.line_base.specs.Edges.{NumberedEdge}
 use Rattle.line_base.specs.declared.rule.Rule.{Rule}
 use Rattle.line_base.specs.declared.rule.Rule.TheVariants as rule
 use Rattle.sent_frame.specs.declared.frame.SentFrame.{SentFrame}
 use Rattle.sent_frame.specs.declared.frame.SentStep.{SentStep}
 use Rattle.sent_frame.specs.declared.frame.SentStep.TheVariants.{Nothing, Good, Bad}
 use Rattle.sent_frame.specs.Setup.{Settings}
-use Rattle.sent_frame.specs.Pulses.{NumberedEdge, pulses_of}
+use Rattle.sent_frame.specs.Pulses.{pulses_of}
 use Rattle.sent_frame.specs.Reading.{sent_reading}
 use Rattle.sent_frame.specs.Frames.{HasFrame, Means, MeansFault}
 use Rattle.sent_frame.proofs.Meanings.{reports_mean}

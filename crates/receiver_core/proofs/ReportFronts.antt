@@ -1,10 +1,10 @@
 -- What was reported stays when more items come.
 use Rattle.std.proofs.Common.{◌≡◌, ℕ, ◌+◌, List, [], ◌∷◌, ◌++◌, ap, ◌∙◌}
+use Rattle.line_base.specs.Edges.{NumberedEdge}
 use Rattle.line_base.specs.Streams.{IsFrontOf}
 use Rattle.line_base.specs.declared.edge.Item.{Item}
 use Rattle.line_base.specs.declared.edge.Item.TheVariants as item
 use Rattle.line_base.proofs.Fronts.{IsFrontOf-refl, IsFrontOf-append, IsFrontOf-trans, IsFrontOf-after}
-use Rattle.sent_frame.specs.Pulses.{NumberedEdge}
 use Rattle.sent_frame.specs.Reading.{sent_reading}
 use Rattle.sent_frame.proofs.Prefixes.{front-cons, reading-front}
 use Rattle.receiver_core.specs.declared.report.What.TheVariants as what

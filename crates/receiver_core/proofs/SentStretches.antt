@@ -1,8 +1,8 @@
 -- A SENT channel that has taken one edge more stands for one edge more.
 use Rattle.std.proofs.Common.{◌≡◌, ℕ, List, [], ◌∷◌, ◌++◌, Option, refl, ap, sym, ◌∙◌}
+use Rattle.line_base.specs.Edges.{NumberedEdge}
 use Rattle.sent_frame.specs.declared.frame.SentStep.{SentStep}
 use Rattle.sent_frame.specs.Setup.{Settings}
-use Rattle.sent_frame.specs.Pulses.{NumberedEdge}
 use Rattle.sent_frame.specs.Reading.{sent_reading, reports_past}
 use Rattle.sent_frame.specs.Positions.{steps_of}
 use Rattle.sent_fast.specs.declared.layout.Layout.{Layout}

@@ -5,10 +5,11 @@ use Rattle.sent_frame.specs.declared.position.Position.TheVariants as position
 use Rattle.sent_frame.specs.declared.reader.State.{State}
 use Rattle.sent_frame.specs.declared.reader.State.TheVariants.{Fresh, Opened, Reading}
 use Rattle.sent_frame.specs.Setup.{Settings}
-use Rattle.sent_frame.specs.Pulses.{NumberedEdge, Pulse, falls_in, pulses_after}
+use Rattle.sent_frame.specs.Pulses.{Pulse, falls_in, pulses_after}
 use Rattle.sent_frame.specs.Reading.{Hunting, Passed, Waiting, go_on, values_of, found, may_calibrate, reports_past, sent_reading}
 use Rattle.sent_frame.specs.Positions.{frame_reads, reads_on}
 use Rattle.sent_frame.specs.Kept.{rest_of}
+use Rattle.line_base.specs.Edges.{NumberedEdge}
 use Rattle.line_base.specs.Readers.{GoesOn}
 
 -- the first edge is an opening

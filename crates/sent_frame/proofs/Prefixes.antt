@@ -1,12 +1,13 @@
 -- What was reported stays when more pulses come.
 use Rattle.std.proofs.Common.{◌≡◌, ◌⊎◌, inl, inr, ℕ, zero, suc, List, [], ◌∷◌, ◌++◌, Bool, true, false, cond, Option, None, Some, refl, ap, ◌∙◌}
+use Rattle.line_base.specs.Edges.{NumberedEdge}
 use Rattle.line_base.specs.Streams.{IsFrontOf}
 use Rattle.line_base.specs.declared.rule.Rule.TheVariants as rule
 use Rattle.link_math.specs.Sent.{value_of}
 use Rattle.sent_frame.specs.declared.frame.SentStep.{SentStep}
 use Rattle.sent_frame.specs.declared.frame.SentStep.TheVariants.{Bad}
 use Rattle.sent_frame.specs.Setup.{Settings}
-use Rattle.sent_frame.specs.Pulses.{Pulse, Fall, NumberedEdge, falls_in, falls_of, pulses_after, pulses_between, pulses_of}
+use Rattle.sent_frame.specs.Pulses.{Pulse, Fall, falls_in, falls_of, pulses_after, pulses_between, pulses_of}
 use Rattle.sent_frame.specs.Reading.{Standing, Hunting, PauseDue, CalibrationDue, Values, Carried, Broken, Short, values_of, with_value, Found, Passed, Waiting, Reported, may_calibrate, place_at, checked, due_after, frame_of, frame_from, hunted, found, has_drifted, go_on, reports_past, sent_reading}
 
 -- nothing is a front of any list

@@ -1,13 +1,14 @@
 -- A reader that has taken one edge more stands for one edge more.
 use Rattle.std.proofs.Common.{◌≡◌, List, [], ◌∷◌, ◌++◌, subst, sym}
 use Rattle.std.specs.List.{All}
+use Rattle.line_base.specs.Edges.{NumberedEdge}
 use Rattle.line_base.proofs.Readers.{grows, goes_on}
 use Rattle.sent_frame.specs.declared.frame.SentStep.{SentStep}
 use Rattle.sent_frame.specs.declared.reader.State.{State}
 use Rattle.sent_frame.specs.declared.reader.State.TheVariants.{Fresh}
 use Rattle.sent_frame.specs.declared.reader.SentReader.{SentReader}
 use Rattle.sent_frame.specs.Setup.{Settings}
-use Rattle.sent_frame.specs.Pulses.{NumberedEdge, pulses_of}
+use Rattle.sent_frame.specs.Pulses.{pulses_of}
 use Rattle.sent_frame.specs.Reading.{sent_reading}
 use Rattle.sent_frame.specs.Frames.{Means}
 use Rattle.sent_frame.specs.Kept.{rest_of}

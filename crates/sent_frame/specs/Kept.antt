@@ -1,10 +1,11 @@
 -- What a SENT reader has kept of the edges that it has seen; this project's own.
 use Rattle.std.specs.Prelude.{List}
+use Rattle.line_base.specs.Edges.{NumberedEdge}
 use Rattle.sent_frame.specs.declared.frame.SentStep.{SentStep}
 use Rattle.sent_frame.specs.declared.reader.State.{State}
 use Rattle.sent_frame.specs.declared.reader.State.TheVariants.{Fresh, Opened, Reading}
 use Rattle.sent_frame.specs.Setup.{Settings}
-use Rattle.sent_frame.specs.Pulses.{NumberedEdge, falls_in, pulses_between, pulses_after}
+use Rattle.sent_frame.specs.Pulses.{falls_in, pulses_between, pulses_after}
 use Rattle.sent_frame.specs.Reading.{reports_of, sent_reading}
 use Rattle.sent_frame.specs.Positions.{IsPosition, reads_on}
 

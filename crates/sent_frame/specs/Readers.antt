@@ -1,9 +1,9 @@
 -- Which edges a SENT reader stands for; this project's own.
 use Rattle.std.specs.Prelude.{◌≡◌, List}
+use Rattle.line_base.specs.Edges.{NumberedEdge}
 use Rattle.line_base.specs.Readers.{GoesOn}
 use Rattle.sent_frame.specs.declared.reader.SentReader.{SentReader}
 use Rattle.sent_frame.specs.Setup.{Settings}
-use Rattle.sent_frame.specs.Pulses.{NumberedEdge}
 use Rattle.sent_frame.specs.Reading.{sent_reading}
 use Rattle.sent_frame.specs.Kept.{rest_of}
 

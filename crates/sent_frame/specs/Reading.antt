@@ -1,5 +1,6 @@
 -- How a list of SENT pulses is read (frames: SAE J2716; what follows a fault: this project's own).
 use Rattle.std.specs.Prelude.{ℕ, zero, suc, List, [], ◌∷◌, Bool, false, ◌&&◌, not, ◌==◌, if◌then◌else◌, Option, None, Some, take, slice_index}
+use Rattle.line_base.specs.Edges.{NumberedEdge}
 use Rattle.line_base.specs.declared.rule.Rule.TheVariants as rule
 use Rattle.link_math.specs.Sent.{is_calibration, is_steady, is_pause, value_of}
 use Rattle.link_math.specs.Checks.{crc4_of, crc4_legacy_of}
@@ -8,7 +9,7 @@ use Rattle.sent_frame.specs.declared.setup.CrcForm.TheVariants as crc
 use Rattle.sent_frame.specs.declared.frame.SentStep.{SentStep}
 use Rattle.sent_frame.specs.declared.frame.SentStep.TheVariants.{Good, Bad}
 use Rattle.sent_frame.specs.Setup.{Settings}
-use Rattle.sent_frame.specs.Pulses.{NumberedEdge, Pulse, pulses_of}
+use Rattle.sent_frame.specs.Pulses.{Pulse, pulses_of}
 
 -- the CRC of the data nibbles, in the form of the setup
 abbrev pub crc_of : CrcForm → List ℕ → ℕ

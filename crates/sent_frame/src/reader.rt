@@ -1,7 +1,8 @@
 //! The reader of SENT frames.
 ghost use Rattle.std.specs.Prelude.{◌≡◌, ◌^◌, ◌≤◌, ◌++◌, [], ◌∷◌, All, List, ℕ};
+ghost use Rattle.line_base.specs.Edges.{NumberedEdge};
 ghost use Rattle.sent_frame.specs.Setup.{Settings};
-ghost use Rattle.sent_frame.specs.Pulses.{NumberedEdge, pulses_of};
+ghost use Rattle.sent_frame.specs.Pulses.{pulses_of};
 ghost use Rattle.sent_frame.specs.Reading.{sent_reading};
 ghost use Rattle.sent_frame.specs.Positions.{IsPosition, steps_of};
 ghost use Rattle.sent_frame.specs.Kept.{IsState, rest_of};
