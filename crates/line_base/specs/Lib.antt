@@ -9,3 +9,5 @@ pub mod Nibbles
 pub mod Edges
 pub mod Orderly
 pub mod Readers
+pub mod Readings
+pub mod Standing
