@@ -5,7 +5,7 @@ ghost use Rattle.sent_frame.specs.Setup.{Settings};
 ghost use Rattle.sent_frame.specs.Pulses.{pulses_of};
 ghost use Rattle.sent_frame.specs.Reading.{sent_reading};
 ghost use Rattle.sent_frame.specs.Positions.{IsPosition, steps_of};
-ghost use Rattle.sent_frame.specs.Kept.{IsState, rest_of};
+ghost use Rattle.sent_frame.specs.Kept.{EdgeLeads, IsState};
 ghost use Rattle.sent_frame.specs.Frames.{Means};
 
 use crate::frame::SentStep;
@@ -62,7 +62,7 @@ fn read_on(
     requires in_range { edge.time ≤ 10 ^ 15 }
     requires valid { IsPosition setup.now position }
     ensures valid { IsState setup.now result.0 }
-    ensures reads { (edges : List NumberedEdge) → rest_of setup.now (State.Reading fall position) (record { number = number; edge = edge } ∷ edges) ≡ steps_of result.1 ++ rest_of setup.now result.0 edges }
+    ensures leads { EdgeLeads setup.now (State.Reading fall position) result.0 (record { number = number; edge = edge }) (steps_of result.1) }
 {
     if edge.level {
         return (State::Reading { fall, position }, SentStep::Nothing);
@@ -81,7 +81,7 @@ fn next_state(setup: &SentSetup, state: State, number: u64, edge: Edge) -> (Stat
     requires in_range { edge.time ≤ 10 ^ 15 }
     requires valid { IsState setup.now state }
     ensures valid { IsState setup.now result.0 }
-    ensures reads { (edges : List NumberedEdge) → rest_of setup.now state (record { number = number; edge = edge } ∷ edges) ≡ steps_of result.1 ++ rest_of setup.now result.0 edges }
+    ensures leads { EdgeLeads setup.now state result.0 (record { number = number; edge = edge }) (steps_of result.1) }
 {
     match state {
         State::Fresh => (State::Opened, SentStep::Nothing),
