@@ -68,20 +68,29 @@ Brings P later (Waiting ends) now = All P (go_on now later)
 Brings P later (Past used next) now = Unit {0}
 Brings {Y} {S} P later (Reported report found) now = (rest : Found Y S) → now ≡ Reported report rest → Brings P later found rest
 
--- each report has this that comes of one element alone, or with one more of what was unfinished before it
+-- each report has this that one element more makes of what was unfinished
+abbrev pub BringsOne : {X Y S : Type 0} → (S → X → List X → Found Y S) → (Y → Type 0) → S → X → List X → X → Type 0
+BringsOne found P due first later x = Brings P (λ used next. read_past found used next (later ++ x ∷ [])) (found due first later) (found due first (later ++ x ∷ []))
+
+-- and so has each that comes of an element alone
 pub record BringsAll {X Y S : Type 0} (found : S → X → List X → Found Y S) (P : List X → Y → Type 0) : Type 0 where
   pub alone : (whole before : List X) (due : S) (x : X) → whole ≡ before ++ x ∷ [] → All (P whole) (read_past found 0 due (x ∷ []))
-  pub one_more : (whole before : List X) (due : S) (first : X) (later : List X) (x : X) → whole ≡ before ++ first ∷ (later ++ x ∷ [])
-      → Brings (P whole) (λ used next. read_past found used next (later ++ x ∷ [])) (found due first later) (found due first (later ++ x ∷ []))
+  pub one_more : (whole before : List X) (due : S) (first : X) (later : List X) (x : X) → whole ≡ before ++ first ∷ (later ++ x ∷ []) → BringsOne found (P whole) due first later x
+
+brings_none : {Y S : Type 0} (P : Y → Type 0) (later : ℕ → S → List Y) (f now : Found Y S) (reports : List Y) (used : ℕ) (next : S) → f ≡ told reports used next → Brings P later f now
+brings_none P later f now [] used next e = rw e tt
+brings_none P later f now (report ∷ reports) used next e = rw e (λ rest same. brings_none P later (told reports used next) rest reports used next refl)
 
 -- nothing was unfinished
-pub brings-none : {Y S : Type 0} (P : Y → Type 0) (later : ℕ → S → List Y) (f now : Found Y S) (reports : List Y) (used : ℕ) (next : S) → f ≡ told reports used next → Brings P later f now
-brings-none P later f now [] used next e = rw e tt
-brings-none P later f now (report ∷ reports) used next e = rw e (λ rest same. brings-none P later (told reports used next) rest reports used next refl)
+pub brings-none : {X Y S : Type 0} (found : S → X → List X → Found Y S) (P : Y → Type 0) (due : S) (first : X) (later : List X) (x : X) (reports : List Y) (used : ℕ) (next : S)
+    → found due first later ≡ told reports used next → BringsOne found P due first later x
+brings-none found P due first later x reports used next e = brings_none P _ (found due first later) (found due first (later ++ x ∷ [])) reports used next e
 
 -- all was unfinished
-pub brings-all : {Y S : Type 0} (P : Y → Type 0) (later : ℕ → S → List Y) (f now : Found Y S) (ends : List Y) → f ≡ Waiting ends → All P (go_on now later) → Brings P later f now
-brings-all P later f now ends e all = rw e all
+pub brings-all : {X Y S : Type 0} (found : S → X → List X → Found Y S) (P : Y → Type 0) (due : S) (first : X) (later : List X) (x : X) (ends : List Y)
+    → found due first later ≡ Waiting ends → All P (read_past found 0 due (first ∷ (later ++ x ∷ []))) → BringsOne found P due first later x
+unfolding read_past
+brings-all found P due first later x ends e all = rw e all
 
 grows_on : {Y S : Type 0} (P : Y → Type 0) (f g : Found Y S) (later more : ℕ → S → List Y) → Keeps f g → ((used : ℕ) (next : S) → GrowsBy P (later used next) (more used next)) → Brings P more f g
     → GrowsBy P (go_on f later) (go_on g more)

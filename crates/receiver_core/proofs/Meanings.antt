@@ -25,7 +25,7 @@ use Rattle.sent_serial.specs.declared.step.SerialStep.TheVariants as serial
 use Rattle.sent_serial.specs.Short.{short_reading}
 use Rattle.sent_serial.specs.Enhanced.{enhanced_reading}
 use Rattle.sent_serial.specs.Meanings.{ShortMeans, EnhancedMeans}
-use Rattle.sent_serial.proofs.Growth.{last_mean}
+use Rattle.line_base.proofs.ReportMeanings.{last-have}
 use Rattle.sent_serial.proofs.ShortMeanings.{short-grows}
 use Rattle.sent_serial.proofs.EnhancedMeanings.{enhanced-grows}
 use Rattle.receiver_core.specs.declared.report.Report.{Report}
@@ -79,8 +79,8 @@ frames-to s edges frames place frame steps reached = record {
 serials-mean : (f : Serial) (before : List ℕ) (status : ℕ) → All (SerialMeans f (before ++ status ∷ [])) (serial_steps f before status)
 unfolding serial_steps
 serials-mean form.Absent before status = All-nil (SerialMeans form.Absent (before ++ status ∷ []))
-serials-mean form.Short before status = last_mean (ShortMeans (before ++ status ∷ [])) (short_reading before) (short_reading (before ++ status ∷ [])) (short-grows before status)
-serials-mean form.Enhanced before status = last_mean (EnhancedMeans (before ++ status ∷ [])) (enhanced_reading before) (enhanced_reading (before ++ status ∷ [])) (enhanced-grows before status)
+serials-mean form.Short before status = last-have (ShortMeans (before ++ status ∷ [])) (short_reading before) (short_reading (before ++ status ∷ [])) (short-grows before status)
+serials-mean form.Enhanced before status = last-have (EnhancedMeans (before ++ status ∷ [])) (enhanced_reading before) (enhanced_reading (before ++ status ∷ [])) (enhanced-grows before status)
 
 -- no other step has a meaning
 no-other : (f : Serial) (statuses : List ℕ) (step : SerialStep) → (ShortMeans statuses step → ⊥) → (EnhancedMeans statuses step → ⊥) → SerialMeans f statuses step → ⊥

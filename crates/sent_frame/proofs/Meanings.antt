@@ -1,7 +1,7 @@
 -- Each report of a list of pulses means something in these pulses.
 --     reports_mean        the reports of a list of pulses, each in these pulses
 --     later_mean          what holds of each report of a list holds of each of the last ones
-use Rattle.std.proofs.Common.{◌≡◌, ℕ, zero, suc, List, [], ◌∷◌, ◌++◌, Bool, true, false, not, inl, inr, ◌==◌, cond, if◌then◌else◌, length, take, drop, slice_index, refl, ap, sym, ◌∙◌, subst, append_assoc, append-nil, arith}
+use Rattle.std.proofs.Common.{◌≡◌, ℕ, suc, List, [], ◌∷◌, ◌++◌, Bool, true, false, not, inl, inr, ◌==◌, cond, if◌then◌else◌, length, take, drop, slice_index, refl, ap, sym, ◌∙◌, subst, append-nil, arith}
 use Rattle.std.proofs.lemmas.Bool.{eqb-false, eqb-true}
 use Rattle.std.proofs.lemmas.List.{drop_at, take-append-drop}
 use Rattle.std.proofs.lemmas.List.Elements.{All-drop, All-nil, All-same}
