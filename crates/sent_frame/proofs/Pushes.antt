@@ -21,6 +21,10 @@ pub record Goes (s : Settings) (state next : State) (e : NumberedEdge) (answers 
   pub leads : EdgeLeads s state next e answers
   pub valid : IsState s next
 
+-- and so does what is the same as the first
+pub goes-from : {s : Settings} {state kept next : State} {e : NumberedEdge} {answers : List SentStep} → kept ≡ state → EdgeLeads s kept next e answers → IsState s next → Goes s state next e answers
+goes-from {s = s} {next = next} {e = e} {answers = answers} same leads valid = record { leads = subst (λ (st : State). EdgeLeads s st next e answers) same leads; valid = valid }
+
 pub stands-in : (setup inside : Settings) (state : State) (old : SentReader) (seen : List NumberedEdge) → (inside, state) ≡ old → StandsFor setup old seen → StandsFor setup (inside, state) seen
 stands-in setup inside state old seen view before = subst (λ (r : SentReader). StandsFor setup r seen) (sym view) before
 

@@ -1,5 +1,5 @@
 //! Where a reader stands between two pulses.
-ghost use Rattle.std.specs.Prelude.{IsTrue, ◌≡◌, ◌+◌, ◌^◌, ◌≤◌, ◌++◌, [], ◌∷◌, List, ℕ, length};
+ghost use Rattle.std.specs.Prelude.{IsTrue, false, ◌≡◌, ◌+◌, ◌^◌, ◌≤◌, ◌++◌, [], ◌∷◌, List, ℕ, length};
 ghost use Rattle.line_base.specs.Standing.{Led, Leads};
 ghost use Rattle.link_math.specs.Sent.{is_calibration};
 ghost use Rattle.sent_frame.specs.Pulses.{Pulse};
@@ -137,6 +137,34 @@ fn read_value(
     let next = after_frame(setup, calibration);
     let step = check(setup, values, place);
     (next, step)
+}
+
+/// Keeps the value that a pulse carries, in place, where the reader is in a frame that isn't whole with it.
+/// Answers whether it is; if not, nothing changes.
+#[inline(always)]
+pub fn keeps_value(setup: &SentSetup, position: &mut Position, pulse: u64) -> bool
+    requires in_range { pulse ≤ 10 ^ 15 }
+    requires valid { IsPosition setup.now position.old }
+    ensures valid { IsPosition setup.now position.new }
+    ensures leads { IsTrue result → (place : ℕ) →
+        Leads (found setup.now) (AgreesPosition setup.now position.old) (AgreesPosition setup.now position.new) (record { place = place; length = pulse } ∷ []) [] }
+    ensures left { result ≡ false → position.new ≡ position.old }
+{
+    let Position::Frame {
+        calibration,
+        values,
+    } = position
+    else {
+        return false;
+    };
+    let Some(value) = nibble_of(pulse, *calibration) else {
+        return false;
+    };
+    if values.len() > usize::from(setup.nibbles()) {
+        return false;
+    }
+    values.push(value);
+    true
 }
 
 /// The pulse after a frame, or after its pause: a calibration pulse is due, and so many ns was the one
