@@ -10,7 +10,7 @@ use Rattle.link_math.specs.Sent.{is_steady, value_of}
 use Rattle.sent_frame.specs.declared.frame.SentStep.TheVariants.{Bad}
 use Rattle.sent_frame.specs.Setup.{Settings}
 use Rattle.sent_frame.specs.Pulses.{Pulse, Fall, falls_in, falls_of, pulses_after, pulses_between, pulses_of}
-use Rattle.sent_frame.specs.Reading.{Standing, Hunting, PauseDue, CalibrationDue, Values, Carried, Broken, Short, values_of, with_value, may_calibrate, place_at, checked, due_after, frame_of, frame_from, hunted, found, found_hunting, reports_past, sent_reading}
+use Rattle.sent_frame.specs.Reading.{Standing, Hunting, PauseDue, CalibrationDue, Values, Carried, Broken, Short, values_of, with_value, may_calibrate, place_at, checked, due_after, frame_of, frame_from, hunted, found, found_hunting, reports_of, sent_reading}
 
 -- unless there are too few pulses, more of them change no values
 abbrev StayValues : ℕ → ℕ → List Pulse → List Pulse → Type 0
@@ -76,10 +76,6 @@ found_keeps s (CalibrationDue c) p ps more =
 pub found-keeps : (s : Settings) → KeepsFound (found s)
 found-keeps s = record { each = λ standing p ps more. found_keeps s standing p ps more }
 
--- the reports of some pulses are a front of those of these and more
-pub reports-front : (s : Settings) (skip : ℕ) (standing : Standing) (ps more : List Pulse) → IsFrontOf (reports_past s skip standing ps) (reports_past s skip standing (ps ++ more))
-reports-front s skip standing ps more = read-front (found s) (found-keeps s) skip standing ps more
-
 falls_more : (b : Bool) (f : Fall) (xs ys zs : List Fall) → zs ≡ xs ++ ys → cond b zs (f ∷ zs) ≡ cond b xs (f ∷ xs) ++ ys
 falls_more true f xs ys zs e = e
 falls_more false f xs ys zs e = ap (λ l. f ∷ l) e
@@ -111,5 +107,5 @@ pulses-front es more =
 pub reading-front : (s : Settings) (es more : List NumberedEdge) → IsFrontOf (sent_reading s es) (sent_reading s (es ++ more))
 reading-front s es more =
     let pulses = pulses-front es more in
-    let reports = reports-front s 0 Hunting (pulses_of es) pulses.rest in
-    record { rest = reports.rest; is = ap (reports_past s 0 Hunting) pulses.is ∙ reports.is }
+    let reports = read-front (found s) (found-keeps s) 0 Hunting (pulses_of es) pulses.rest in
+    record { rest = reports.rest; is = ap (reports_of s) pulses.is ∙ reports.is }

@@ -22,7 +22,7 @@ pub record IsCandidate (calibration : ℕ) (due : Standing) (kept : List Pulse) 
   pub stands : kept ≡ pulse ∷ []
   pub long : pulse.length ≡ calibration
 
--- the first kept pulse begins a frame with this calibration pulse's length, whatever comes behind the next ones, and the kept ones after it carry these values
+-- the first of the kept pulses is a frame's calibration pulse of this length, whatever comes behind the next ones, and the pulses kept after it carry these values
 pub record IsInFrame (s : Settings) (calibration : ℕ) (values : List ℕ) (due : Standing) (kept next : List Pulse) : Type 0 where
   pub first : Pulse
   pub later : List Pulse

@@ -95,13 +95,9 @@ found s (CalibrationDue calibration) pulse pulses =
     else (if is_steady calibration pulse.length then frame_from s pulse.length pulses
     else Reported (Bad pulse.place rule.Drift) (found_hunting s pulse pulses))
 
--- the reports of a list of pulses, so many of which are used up already
-abbrev pub reports_past : Settings → ℕ → Standing → List Pulse → List SentStep
-reports_past s skip standing pulses = read_past (found s) skip standing pulses
-
 -- the reports of a list of pulses, read from its start
 abbrev pub reports_of : Settings → List Pulse → List SentStep
-reports_of s pulses = reports_past s 0 Hunting pulses
+reports_of s pulses = read_past (found s) 0 Hunting pulses
 
 -- the reports of a line's edges
 abbrev pub sent_reading : Settings → List NumberedEdge → List SentStep

@@ -1,5 +1,5 @@
 -- A value that is kept.
-use Rattle.std.proofs.Common.{◌∷◌, [], sym, ◌∙◌}
+use Rattle.std.proofs.Common.{sym, ◌∙◌}
 use Rattle.sent_frame.proofs.PulseLeads.{frame-keeps, next-in-frame}
 use Rattle.sent_frame.proofs.position.keeps_value.Goals as goal
 
