@@ -6,3 +6,5 @@ pub mod Readings
 pub mod ReportMeanings
 pub mod Standing
 pub mod Writes
+pub mod Cuts
+pub mod Numbers

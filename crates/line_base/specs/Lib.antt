@@ -11,3 +11,5 @@ pub mod Orderly
 pub mod Readers
 pub mod Readings
 pub mod Standing
+pub mod Steps
+pub mod Texts
