@@ -24,7 +24,7 @@ use Rattle.sent_serial.specs.declared.enhanced.EnhancedState.TheVariants.{Search
 use Rattle.sent_serial.specs.declared.step.SerialStep.{SerialStep}
 use Rattle.sent_serial.specs.declared.step.SerialStep.TheVariants.{Enhanced, Bad}
 use Rattle.sent_serial.specs.Statuses.{start_bit, value_bit, set_before}
-use Rattle.sent_serial.specs.Readings.{steps_of}
+use Rattle.sent_serial.specs.Steps.{steps_of}
 use Rattle.sent_serial.specs.Enhanced.{begun_at, enhanced_content, enhanced_found, enhanced_message, enhanced_reading}
 use Rattle.sent_serial.specs.Kept.{AgreesEnhanced, IsEnhancedFront, IsEnhancedState, IsRun}
 use Rattle.sent_serial.specs.Messages.{HasBits}

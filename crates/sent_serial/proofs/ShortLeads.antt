@@ -18,7 +18,7 @@ use Rattle.sent_serial.specs.declared.short.ShortState.TheVariants.{Outside, Wit
 use Rattle.sent_serial.specs.declared.step.SerialStep.{SerialStep}
 use Rattle.sent_serial.specs.declared.step.SerialStep.TheVariants.{Short, Bad}
 use Rattle.sent_serial.specs.Statuses.{clear_before, start_bit, value_bit}
-use Rattle.sent_serial.specs.Readings.{steps_of}
+use Rattle.sent_serial.specs.Steps.{steps_of}
 use Rattle.sent_serial.specs.Short.{short_found, short_message, short_reading}
 use Rattle.sent_serial.specs.Kept.{AgreesShort, IsShortFront, IsShortState}
 use Rattle.sent_serial.specs.Readers.{StandsForShort}

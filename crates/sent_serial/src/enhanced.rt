@@ -4,7 +4,7 @@ ghost use Rattle.std.specs.Prelude.{◌≡◌, ◌^◌, ◌<◌, ◌++◌, [], �
 ghost use Rattle.line_base.specs.Standing.{Leads};
 ghost use Rattle.link_math.specs.Division.{bits_of};
 ghost use Rattle.sent_serial.specs.Statuses.{merged, start_bit};
-ghost use Rattle.sent_serial.specs.Readings.{steps_of};
+ghost use Rattle.sent_serial.specs.Steps.{steps_of};
 ghost use Rattle.sent_serial.specs.Enhanced.{enhanced_content, enhanced_found, enhanced_message, enhanced_reading};
 ghost use Rattle.sent_serial.specs.Kept.{AgreesEnhanced, IsEnhancedState};
 ghost use Rattle.sent_serial.specs.Messages.{HasBits};

@@ -4,7 +4,7 @@ ghost use Rattle.line_base.specs.Standing.{Leads};
 ghost use Rattle.link_math.specs.Checks.{crc4_of};
 ghost use Rattle.link_math.specs.Division.{bits_of};
 ghost use Rattle.sent_serial.specs.Statuses.{start_bit};
-ghost use Rattle.sent_serial.specs.Readings.{steps_of};
+ghost use Rattle.sent_serial.specs.Steps.{steps_of};
 ghost use Rattle.sent_serial.specs.Short.{short_found, short_message, short_reading};
 ghost use Rattle.sent_serial.specs.Kept.{AgreesShort, IsShortState};
 
