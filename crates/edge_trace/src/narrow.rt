@@ -9,10 +9,10 @@ ghost use Rattle.edge_trace.specs.Readings.{form_of, IsForm, stamp_time, IsStamp
 use crate::digits::level_of;
 use crate::form::Form;
 use crate::plain::plain_row;
-use crate::stamps::{MAX_TIME, time_in};
+use crate::stamps::time_in;
 use crate::texts::trimmed;
 use line_base::text::{cut, number_of};
-use line_base::{Edge, LineFault};
+use line_base::{Edge, LineFault, MAX_TIME};
 
 /// The line number of a field, 0 to 15.
 #[inline]

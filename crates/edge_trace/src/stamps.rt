@@ -7,11 +7,8 @@ ghost use Rattle.edge_trace.specs.Readings.{form_of, IsForm, stamp_time, time_be
 
 use crate::digits::seconds_of;
 use crate::form::Form;
-use line_base::LineFault;
 use line_base::text::number_of;
-
-/// The greatest time, in ns.
-pub(crate) const MAX_TIME: u64 = 1_000_000_000_000_000;
+use line_base::{LineFault, MAX_TIME};
 
 /// The time in ns, at most 10^15, of so many units of so many ns behind a time.
 #[inline]

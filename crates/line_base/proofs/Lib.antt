@@ -2,6 +2,9 @@ pub mod Fronts
 pub mod Orders
 pub mod Pieces
 pub mod Readers
+pub mod Readings
+pub mod ReportMeanings
+pub mod Standing
 pub mod Writes
 pub mod Cuts
 pub mod Numbers

@@ -6,7 +6,10 @@ pub mod Rules
 pub mod Faults
 pub mod Reasons
 pub mod Nibbles
+pub mod Edges
 pub mod Orderly
 pub mod Readers
+pub mod Readings
+pub mod Standing
 pub mod Steps
 pub mod Texts

@@ -1,11 +1,15 @@
 //! Edges of lines and what stands between them.
 
+/// The greatest time of an edge, 1,000,000,000,000,000 ns (about 11 days): this project's own limit, under
+/// which every product of a length with a threshold fits a `u64`.
+pub const MAX_TIME: u64 = 1_000_000_000_000_000;
+
 /// An edge of a line: a change of its level, or the first level that is known of it.
 #[derive(Clone, Copy, Debug, PartialEq, Eq)]
 pub struct Edge {
     /// The line, 0 to 15.
     pub line: u8,
-    /// The time in ns, 0 to 10^15.
+    /// The time in ns, 0 to [`MAX_TIME`].
     pub time: u64,
     /// The level after the edge; `true` is high.
     pub level: bool,

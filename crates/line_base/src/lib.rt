@@ -19,7 +19,7 @@ mod std_streams;
 mod tests;
 pub mod text;
 
-pub use edge::{Edge, Item, Span};
+pub use edge::{Edge, Item, MAX_TIME, Span};
 pub use faults::{Failed, LineFault, SetupFault, WordFault};
 pub use memory_sink::MemorySink;
 pub use memory_source::MemorySource;

@@ -4,10 +4,8 @@
 //! A bit is two half-bits with a change between them, so within a frame two edges are one or two half-bits
 //! apart. The thresholds are this project's own: each is half a half-bit off.
 
-ghost use Rattle.std.specs.Prelude.{◌≡◌, ◌≤◌};
+ghost use Rattle.std.specs.Prelude.{◌≡◌, ◌^◌, ◌≤◌};
 ghost use Rattle.link_math.specs.Manchester.{CountsAs, halves_in};
-
-use crate::sent::MAX_TIME;
 
 /// How many half-bits an interval is.
 #[derive(Clone, Copy, Debug, PartialEq, Eq)]
@@ -22,10 +20,10 @@ pub enum Halves {
     Quiet,
 }
 
-/// How many half-bits an interval of `interval` ns, 0 to [`MAX_TIME`], is at a nominal bit time of `bit` ns.
+/// How many half-bits an interval of `interval` ns, 0 to 10^15, is at a nominal bit time of `bit` ns.
 #[inline]
 pub fn halves_of(interval: u64, bit: u32) -> Halves
-    requires { interval ≤ MAX_TIME }
+    requires { interval ≤ 10 ^ 15 }
     ensures value { result ≡ halves_in interval bit }
     ensures counted { CountsAs interval bit result }
 {

@@ -96,7 +96,7 @@ fn an_interval_is_to_the_nearest_half_bit_and_quiet_from_five_quarters_of_a_bit_
         let found = halves_of(u64::from(interval), bit);
         assert_eq!(rt; found, expected, "{interval} ns at {bit} ns");
     }
-    assert_eq!(rt; halves_of(MAX_TIME, 8_000), Halves::Quiet);
+    assert_eq!(rt; halves_of(1_000_000_000_000_000, 8_000), Halves::Quiet);
 }
 
 #[test]

@@ -4,6 +4,7 @@
 --     leads-begun-skipping, leads-begun-open      an edge that begins a burst
 --     ended-none, ended-open      the burst that isn't complete at the end
 use Rattle.std.proofs.Common.{◌≡◌, ℕ, ◌-◌, true, false, ◌||◌, Option, None, Some, option_to_list, List, [], ◌∷◌, ◌++◌, refl, sym, ◌∙◌, ap, ap₂, append_assoc, append-nil}
+use Rattle.line_base.specs.Edges.{NumberedEdge}
 use Rattle.link_math.specs.Manchester.{halves_in}
 use Rattle.psi5_frame.specs.declared.burst.Burst.{Burst}
 use Rattle.psi5_frame.specs.declared.burst.BurstStep.{BurstStep}
@@ -12,7 +13,7 @@ use Rattle.psi5_frame.specs.declared.reader.State.{State}
 use Rattle.psi5_frame.specs.declared.reader.State.TheVariants.{Fresh, Skipping, Open}
 use Rattle.psi5_frame.specs.Intervals.{is_quiet}
 use Rattle.psi5_frame.specs.Setup.{Settings, bit_count}
-use Rattle.psi5_frame.specs.Edges.{NumberedEdge, Change, change_at, changes_of, changes_after}
+use Rattle.psi5_frame.specs.Edges.{Change, change_at, changes_of, changes_after}
 use Rattle.psi5_frame.specs.Bursts.{begins, has_start, judged, complete_bursts, all_bursts, starts_in}
 use Rattle.psi5_frame.specs.Kept.{Agrees, AgreesWith, EndsInBurst, Leads, began_at, next_changes, nothing}
 use Rattle.psi5_frame.proofs.Runs.{no_bursts, complete-open, all-open, complete-start, starts-append, starts-start, has_start-append, has_start-loud, no_start}

@@ -4,6 +4,7 @@ use Rattle.std.proofs.Common.{◌≡◌, ◌≢◌, ℕ, Bool, true, false, ◌|
 use Rattle.std.specs.List.{All}
 use Rattle.std.proofs.lemmas.Bool.{eqb-false}
 use Rattle.std.proofs.lemmas.List.Elements.{All-cons, All-nil}
+use Rattle.line_base.specs.Edges.{NumberedEdge}
 use Rattle.line_base.specs.declared.rule.Rule.{Rule}
 use Rattle.line_base.specs.declared.rule.Rule.TheVariants as rule
 use Rattle.link_math.specs.declared.manchester.Halves.{Halves}
@@ -13,7 +14,7 @@ use Rattle.psi5_frame.specs.declared.burst.Burst.{Burst}
 use Rattle.psi5_frame.specs.declared.burst.Burst.TheVariants.{Good, Bad}
 use Rattle.psi5_frame.specs.Intervals.{is_quiet}
 use Rattle.psi5_frame.specs.Setup.{Settings, bit_count, payload_width}
-use Rattle.psi5_frame.specs.Edges.{NumberedEdge, Change, changes_of}
+use Rattle.psi5_frame.specs.Edges.{Change, changes_of}
 use Rattle.psi5_frame.specs.Frames.{check_number, payload_of}
 use Rattle.psi5_frame.specs.Bursts.{begins, has_start, run_of, judged, all_bursts, edge_fault, fault_after, has_place, last_of, checked, bursts_at_end, Violation}
 use Rattle.psi5_frame.specs.Meanings.{IsQuietAfter, IsRead, IsRightUpTo, Means, Violates, said_bits, last_middle}

@@ -2,11 +2,12 @@
 --     grows-bursts, grows-starts      the bursts so far, and their first edges, when more edges come
 --     grows-at_end      the bursts so far, and those at the end of more edges
 use Rattle.std.proofs.Common.{◌≡◌, ℕ, Bool, true, false, ◌&&◌, ◌||◌, if◌then◌else◌, List, [], ◌∷◌, ◌++◌, refl, sym, ◌∙◌, ap, subst}
+use Rattle.line_base.specs.Edges.{NumberedEdge}
 use Rattle.line_base.specs.Streams.{IsFrontOf}
 use Rattle.line_base.proofs.Fronts.{IsFrontOf-nil, IsFrontOf-append, IsFrontOf-after}
 use Rattle.psi5_frame.specs.declared.burst.Burst.{Burst}
 use Rattle.psi5_frame.specs.Setup.{Settings}
-use Rattle.psi5_frame.specs.Edges.{NumberedEdge, Change, change_at, changes_of, changes_after}
+use Rattle.psi5_frame.specs.Edges.{Change, change_at, changes_of, changes_after}
 use Rattle.psi5_frame.specs.Bursts.{begins, has_start, run_of, judged, complete_bursts, all_bursts, starts_in, bursts_so_far, bursts_at_end, burst_starts}
 use Rattle.psi5_frame.proofs.Runs.{has_start-append, no_bursts, run_of-cons, starts-append}
 

@@ -3,6 +3,7 @@
 --     pushed-stands, pushed-grows, pushed-began      one edge more
 --     finished      the end
 use Rattle.std.proofs.Common.{◌≡◌, ℕ, Option, option_to_list, List, [], ◌∷◌, ◌++◌, refl, sym, ap, subst, ◌∙◌}
+use Rattle.line_base.specs.Edges.{NumberedEdge}
 use Rattle.line_base.proofs.Readers.{grows, goes_on}
 use Rattle.psi5_frame.specs.declared.burst.Burst.{Burst}
 use Rattle.psi5_frame.specs.declared.burst.BurstStep.{BurstStep}
@@ -10,7 +11,7 @@ use Rattle.psi5_frame.specs.declared.reader.State.{State}
 use Rattle.psi5_frame.specs.declared.reader.State.TheVariants.{Fresh, Skipping, Open}
 use Rattle.psi5_frame.specs.declared.reader.BurstReader.{BurstReader}
 use Rattle.psi5_frame.specs.Setup.{Settings}
-use Rattle.psi5_frame.specs.Edges.{NumberedEdge, Change, changes_of, changes_after}
+use Rattle.psi5_frame.specs.Edges.{Change, changes_of, changes_after}
 use Rattle.psi5_frame.specs.Bursts.{complete_bursts, all_bursts, starts_in, bursts_so_far, bursts_at_end, burst_starts}
 use Rattle.psi5_frame.specs.Kept.{AgreesWith, Leads, began_at, next_changes}
 use Rattle.psi5_frame.specs.Readers.{StandsFor}

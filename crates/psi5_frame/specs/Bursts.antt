@@ -1,6 +1,7 @@
 -- The bursts of a PSI5 data line, and what each of them says. The rules and their order are this project's own.
 use Rattle.std.specs.Prelude.{ℕ, ◌+◌, ◌-◌, ◌*◌, ◌%◌, Bool, false, ◌&&◌, ◌||◌, not, nat_eq, nat_lt, if◌then◌else◌, Option, None, Some, List, [], ◌∷◌, ◌++◌, take, drop, map, filter}
 use Rattle.std.specs.List.{list_any, before_first}
+use Rattle.line_base.specs.Edges.{NumberedEdge}
 use Rattle.line_base.specs.declared.rule.Rule.{Rule}
 use Rattle.line_base.specs.declared.rule.Rule.TheVariants as rule
 use Rattle.link_math.specs.declared.manchester.Halves.{Halves}
@@ -9,7 +10,7 @@ use Rattle.psi5_frame.specs.declared.burst.Burst.{Burst}
 use Rattle.psi5_frame.specs.declared.burst.Burst.TheVariants.{Good, Bad}
 use Rattle.psi5_frame.specs.Intervals.{half_bits, is_short, is_two, is_quiet}
 use Rattle.psi5_frame.specs.Setup.{Settings, bit_count, payload_width}
-use Rattle.psi5_frame.specs.Edges.{NumberedEdge, Change, changes_of}
+use Rattle.psi5_frame.specs.Edges.{Change, changes_of}
 use Rattle.psi5_frame.specs.Frames.{check_number, payload_of}
 
 -- ---- one burst: its first edge, which stands at half-bit 1, and the edges after it

@@ -1,13 +1,8 @@
 -- The edges of a PSI5 data line, each with what the interval before it counts as in half-bits.
 use Rattle.std.specs.Prelude.{ℕ, ◌-◌, Bool, List, [], ◌∷◌}
-use Rattle.line_base.specs.declared.edge.Edge.{Edge}
+use Rattle.line_base.specs.Edges.{NumberedEdge}
 use Rattle.link_math.specs.declared.manchester.Halves.{Halves}
 use Rattle.link_math.specs.Manchester.{halves_in}
-
--- an edge, with its number in the channel
-pub record NumberedEdge : Type 0 where
-  pub number : ℕ
-  pub edge : Edge
 
 -- an edge that isn't an opening: its number, the level after it, and what the interval from the edge before it counts as
 pub record Change : Type 0 where

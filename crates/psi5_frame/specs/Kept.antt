@@ -1,5 +1,6 @@
 -- What a burst reader has kept of the edges that it has seen; this project's own.
 use Rattle.std.specs.Prelude.{◌≡◌, ℕ, ◌+◌, ◌-◌, ◌*◌, ◌/◌, ◌≤◌, Bool, true, false, nat_le, if◌then◌else◌, option_to_list, None, Some, List, [], ◌∷◌, ◌++◌, length}
+use Rattle.line_base.specs.Edges.{NumberedEdge}
 use Rattle.link_math.specs.Manchester.{halves_in}
 use Rattle.psi5_frame.specs.declared.burst.BurstStep.{BurstStep}
 use Rattle.psi5_frame.specs.declared.open.OpenBurst.{OpenBurst}
@@ -8,7 +9,7 @@ use Rattle.psi5_frame.specs.declared.reader.State.{State}
 use Rattle.psi5_frame.specs.declared.reader.State.TheVariants.{Fresh, Skipping, Open}
 use Rattle.psi5_frame.specs.Intervals.{is_quiet}
 use Rattle.psi5_frame.specs.Setup.{Settings, bit_count}
-use Rattle.psi5_frame.specs.Edges.{NumberedEdge, Change, changes_of, changes_after}
+use Rattle.psi5_frame.specs.Edges.{Change, changes_of, changes_after}
 use Rattle.psi5_frame.specs.Bursts.{last_of, place_after, has_place, edge_fault, burst_bits, begins, has_start, complete_bursts, starts_in}
 
 -- no edge of a burst violates a rule so far, and these are its last edge's number, level and place, and the bits that it says

@@ -1,8 +1,9 @@
 //! What the bursts of a line's edges stand for.
 ghost use Rattle.std.specs.Prelude.{◌≡◌, ◌++◌, All, List, ℕ, false};
+ghost use Rattle.line_base.specs.Edges.{NumberedEdge};
 ghost use Rattle.line_base.specs.Streams.{IsFrontOf};
 ghost use Rattle.psi5_frame.specs.Setup.{Settings};
-ghost use Rattle.psi5_frame.specs.Edges.{Change, NumberedEdge, changes_of};
+ghost use Rattle.psi5_frame.specs.Edges.{Change, changes_of};
 ghost use Rattle.psi5_frame.specs.Frames.{Fits, frame_of, waveform};
 ghost use Rattle.psi5_frame.specs.Waveforms.{Alternate, IsFrameBurst};
 ghost use Rattle.psi5_frame.specs.Bursts.{burst_starts, bursts_at_end, bursts_so_far, has_start, judged, last_of};

@@ -1,9 +1,10 @@
 //! The reader of PSI5 bursts.
 ghost use Rattle.std.specs.Prelude.{IsTrue, false, ◌≡◌, ◌^◌, ◌≤◌, ◌++◌, [], ◌∷◌, List, ℕ, if◌then◌else◌, option_to_list};
+ghost use Rattle.line_base.specs.Edges.{NumberedEdge};
 ghost use Rattle.link_math.specs.Manchester.{halves_in};
 ghost use Rattle.psi5_frame.specs.Intervals as intervals;
 ghost use Rattle.psi5_frame.specs.Setup.{Settings, bit_count};
-ghost use Rattle.psi5_frame.specs.Edges.{NumberedEdge, Change};
+ghost use Rattle.psi5_frame.specs.Edges.{Change};
 ghost use Rattle.psi5_frame.specs.Bursts.{all_bursts, complete_bursts, bursts_so_far, bursts_at_end, burst_starts};
 ghost use Rattle.psi5_frame.specs.Kept.{AgreesWith, IsState, Leads, StartsAnew, nothing};
 

@@ -3,9 +3,9 @@
 use Rattle.std.proofs.Common.{◌≡◌, ◌≢◌, ℕ, ◌+◌, List, [], ◌∷◌, ◌++◌, refl, sym, ◌∙◌, subst, append_assoc}
 use Rattle.std.specs.List.{All, Contains}
 use Rattle.std.proofs.lemmas.List.Elements.{All-append, All-cons, All-nil, All-push, All-weaker, Contains-append_left, Contains-append_right, Contains-push}
+use Rattle.line_base.specs.Edges.{NumberedEdge}
 use Rattle.line_base.specs.declared.edge.Item.{Item}
 use Rattle.line_base.specs.declared.edge.Item.TheVariants as item
-use Rattle.sent_frame.specs.Pulses.{NumberedEdge}
 use Rattle.receiver_core.specs.declared.report.Report.{Report}
 use Rattle.receiver_core.specs.declared.report.What.{What}
 use Rattle.receiver_core.specs.declared.report.What.TheVariants as what

@@ -1,11 +1,12 @@
 -- What one item more adds to the reports of what a link has open, and what a receiver stands for then.
 use Rattle.std.proofs.Common.{◌≡◌, ℕ, ◌+◌, List, [], ◌∷◌, ◌++◌, Option, None, Some, refl, ap, sym, ◌∙◌, subst, append-nil}
+use Rattle.line_base.specs.Edges.{NumberedEdge}
 use Rattle.line_base.specs.declared.edge.Edge.{Edge}
 use Rattle.line_base.specs.declared.edge.Item.{Item}
 use Rattle.line_base.specs.declared.edge.Item.TheVariants as item
 use Rattle.sent_frame.specs.Setup.{Settings}
-use Rattle.sent_frame.specs.Pulses.{NumberedEdge}
-use Rattle.sent_frame.specs.Reading.{sent_reading, reports_past}
+use Rattle.line_base.specs.Readings.{read_past}
+use Rattle.sent_frame.specs.Reading.{sent_reading}
 use Rattle.sent_fast.specs.declared.layout.Layout.{Layout}
 use Rattle.receiver_core.specs.declared.report.Report.{Report}
 use Rattle.receiver_core.specs.declared.report.What.TheVariants as what
@@ -37,7 +38,7 @@ edge-adds (Sent line s layout serial) number channel None edge answers stands ad
 edge-adds (Sent line s layout serial) number channel (Some seen) edge answers stands adds = adds s layout serial seen stands
 
 none-reported : (s : Settings) (layout : Layout) (serial : Serial) → sent_reports layout serial [] (sent_reading s []) ≡ []
-unfolding sent_reports reports_past
+unfolding sent_reports read_past
 none-reported s layout serial = refl
 
 -- no edges have no reports

@@ -5,13 +5,14 @@ use Rattle.std.specs.List.{All, last_or}
 use Rattle.std.proofs.lemmas.Bool.{eqb-false}
 use Rattle.std.proofs.lemmas.List.{map-append}
 use Rattle.std.proofs.lemmas.List.Elements.{All-append, All-cons, All-head, All-nil, All-tail}
+use Rattle.line_base.specs.Edges.{NumberedEdge}
 use Rattle.line_base.specs.declared.rule.Rule.{Rule}
 use Rattle.line_base.specs.declared.rule.Rule.TheVariants as rule
 use Rattle.sent_frame.specs.declared.frame.SentFrame.{SentFrame}
 use Rattle.sent_frame.specs.declared.frame.SentStep.{SentStep}
 use Rattle.sent_frame.specs.declared.frame.SentStep.TheVariants.{Nothing, Good, Bad}
 use Rattle.sent_frame.specs.Setup.{Settings}
-use Rattle.sent_frame.specs.Pulses.{NumberedEdge, pulses_of}
+use Rattle.sent_frame.specs.Pulses.{pulses_of}
 use Rattle.sent_frame.specs.Reading.{sent_reading}
 use Rattle.sent_frame.specs.Frames.{HasFrame, Means, MeansFault}
 use Rattle.sent_frame.proofs.Meanings.{reports_mean}
@@ -24,7 +25,7 @@ use Rattle.sent_serial.specs.declared.step.SerialStep.TheVariants as serial
 use Rattle.sent_serial.specs.Short.{short_reading}
 use Rattle.sent_serial.specs.Enhanced.{enhanced_reading}
 use Rattle.sent_serial.specs.Meanings.{ShortMeans, EnhancedMeans}
-use Rattle.sent_serial.proofs.Growth.{last_mean}
+use Rattle.line_base.proofs.ReportMeanings.{last-have}
 use Rattle.sent_serial.proofs.ShortMeanings.{short-grows}
 use Rattle.sent_serial.proofs.EnhancedMeanings.{enhanced-grows}
 use Rattle.receiver_core.specs.declared.report.Report.{Report}
@@ -78,8 +79,8 @@ frames-to s edges frames place frame steps reached = record {
 serials-mean : (f : Serial) (before : List ℕ) (status : ℕ) → All (SerialMeans f (before ++ status ∷ [])) (serial_steps f before status)
 unfolding serial_steps
 serials-mean form.Absent before status = All-nil (SerialMeans form.Absent (before ++ status ∷ []))
-serials-mean form.Short before status = last_mean (ShortMeans (before ++ status ∷ [])) (short_reading before) (short_reading (before ++ status ∷ [])) (short-grows before status)
-serials-mean form.Enhanced before status = last_mean (EnhancedMeans (before ++ status ∷ [])) (enhanced_reading before) (enhanced_reading (before ++ status ∷ [])) (enhanced-grows before status)
+serials-mean form.Short before status = last-have (ShortMeans (before ++ status ∷ [])) (short_reading before) (short_reading (before ++ status ∷ [])) (short-grows before status)
+serials-mean form.Enhanced before status = last-have (EnhancedMeans (before ++ status ∷ [])) (enhanced_reading before) (enhanced_reading (before ++ status ∷ [])) (enhanced-grows before status)
 
 -- no other step has a meaning
 no-other : (f : Serial) (statuses : List ℕ) (step : SerialStep) → (ShortMeans statuses step → ⊥) → (EnhancedMeans statuses step → ⊥) → SerialMeans f statuses step → ⊥

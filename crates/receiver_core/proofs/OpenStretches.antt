@@ -1,8 +1,8 @@
 -- The reports of a list of items, cut anywhere: those of the stretches that are closed, and then those of the open one.
 use Rattle.std.proofs.Common.{◌≡◌, ℕ, ◌+◌, List, [], ◌∷◌, ◌++◌, Some, refl, ap, sym, ◌∙◌, append_assoc, append-nil, add_assoc, add-zero, zero-add}
+use Rattle.line_base.specs.Edges.{NumberedEdge}
 use Rattle.line_base.specs.declared.edge.Item.{Item}
 use Rattle.line_base.specs.declared.edge.Item.TheVariants as item
-use Rattle.sent_frame.specs.Pulses.{NumberedEdge}
 use Rattle.receiver_core.specs.declared.report.Report.{Report}
 use Rattle.receiver_core.specs.declared.report.What.TheVariants as what
 use Rattle.receiver_core.specs.declared.setup.ChannelSetup.{ChannelSetup}

@@ -1,12 +1,12 @@
 -- What was reported stays when more items come.
 use Rattle.std.proofs.Common.{◌≡◌, ℕ, ◌+◌, List, [], ◌∷◌, ◌++◌, ap, ◌∙◌}
+use Rattle.line_base.specs.Edges.{NumberedEdge}
 use Rattle.line_base.specs.Streams.{IsFrontOf}
 use Rattle.line_base.specs.declared.edge.Item.{Item}
 use Rattle.line_base.specs.declared.edge.Item.TheVariants as item
 use Rattle.line_base.proofs.Fronts.{IsFrontOf-refl, IsFrontOf-append, IsFrontOf-trans, IsFrontOf-after}
-use Rattle.sent_frame.specs.Pulses.{NumberedEdge}
 use Rattle.sent_frame.specs.Reading.{sent_reading}
-use Rattle.sent_frame.proofs.Prefixes.{front-cons, reading-front}
+use Rattle.sent_frame.proofs.Prefixes.{reading-front}
 use Rattle.receiver_core.specs.declared.report.What.TheVariants as what
 use Rattle.receiver_core.specs.declared.setup.ChannelSetup.{ChannelSetup}
 use Rattle.receiver_core.specs.declared.setup.ChannelSetup.TheVariants.{Sent}
@@ -47,7 +47,7 @@ unfolding reports_from
 reports_from-front setup number stretch [] more = stretch-first setup number stretch more
 reports_from-front setup number stretch (item.Edge edge ∷ items) more = reports_from-front setup (number + 1) (stretch ++ record { number = number; edge = edge } ∷ []) items more
 reports_from-front setup number stretch (item.Gap first count ∷ items) more =
-    IsFrontOf-after (stretch_reports setup stretch) (front-cons (report first (what.Gap count)) _ _ (reports_from-front setup (number + count) [] items more))
+    IsFrontOf-after (stretch_reports setup stretch) (IsFrontOf-after (report first (what.Gap count) ∷ []) (reports_from-front setup (number + count) [] items more))
 reports_from-front setup number stretch (item.End ∷ items) more = IsFrontOf-refl (stretch_reports setup stretch ++ end_reports setup stretch)
 reports_from-front setup number stretch (item.Cut ∷ items) more = IsFrontOf-refl (stretch_reports setup stretch)
 

@@ -1,9 +1,10 @@
 -- A SENT channel that has taken one edge more stands for one edge more.
 use Rattle.std.proofs.Common.{◌≡◌, ℕ, List, [], ◌∷◌, ◌++◌, Option, refl, ap, sym, ◌∙◌}
+use Rattle.line_base.specs.Edges.{NumberedEdge}
 use Rattle.sent_frame.specs.declared.frame.SentStep.{SentStep}
 use Rattle.sent_frame.specs.Setup.{Settings}
-use Rattle.sent_frame.specs.Pulses.{NumberedEdge}
-use Rattle.sent_frame.specs.Reading.{sent_reading, reports_past}
+use Rattle.line_base.specs.Readings.{read_past}
+use Rattle.sent_frame.specs.Reading.{sent_reading}
 use Rattle.sent_frame.specs.Positions.{steps_of}
 use Rattle.sent_fast.specs.declared.layout.Layout.{Layout}
 use Rattle.receiver_core.specs.declared.setup.Serial.{Serial}
@@ -14,7 +15,7 @@ use Rattle.receiver_core.proofs.SentReports.{sent_reports-append, frames_past-ap
 
 -- no edges leave no frame
 pub frames-none : (s : Settings) → frames_past [] (sent_reading s []) ≡ []
-unfolding frames_past reports_past
+unfolding frames_past read_past
 frames-none s = refl
 
 -- the steps grow by this one

@@ -3,7 +3,7 @@ use Rattle.std.proofs.Common.{◌≡◌, ℕ, List, [], ◌∷◌, ◌++◌, len
 use Rattle.std.proofs.Math.Seq.{drop-append_seam}
 use Rattle.sent_serial.specs.declared.step.SerialStep.{SerialStep}
 use Rattle.sent_serial.specs.declared.step.SerialStep.TheVariants.{Nothing, Short, Enhanced, Bad}
-use Rattle.sent_serial.specs.Readings.{steps_of}
+use Rattle.sent_serial.specs.Steps.{steps_of}
 use Rattle.receiver_core.specs.declared.setup.Serial.{Serial}
 use Rattle.receiver_core.specs.Serials.{serial_reading, serial_steps}
 use Rattle.receiver_core.specs.SentReports.{serial_report, serial_reports}

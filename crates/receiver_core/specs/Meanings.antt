@@ -1,5 +1,6 @@
 -- What a channel's reports stand for in its items (frames, counters and serial messages: SAE J2716; breaks, gaps and ends: this project's own).
 use Rattle.std.specs.Prelude.{◌≡◌, ◌≢◌, ℕ, ◌-◌, List, [], ◌∷◌, ◌++◌, All, Contains, Some, Ok}
+use Rattle.line_base.specs.Edges.{NumberedEdge}
 use Rattle.line_base.specs.declared.edge.Item.{Item}
 use Rattle.line_base.specs.declared.edge.Item.TheVariants as item
 use Rattle.line_base.specs.declared.rule.Rule.{Rule}
@@ -8,7 +9,7 @@ use Rattle.sent_frame.specs.declared.frame.SentFrame.{SentFrame}
 use Rattle.sent_frame.specs.declared.frame.SentStep.{SentStep}
 use Rattle.sent_frame.specs.declared.frame.SentStep.TheVariants.{Good}
 use Rattle.sent_frame.specs.Setup.{Settings}
-use Rattle.sent_frame.specs.Pulses.{NumberedEdge, pulses_of}
+use Rattle.sent_frame.specs.Pulses.{pulses_of}
 use Rattle.sent_frame.specs.Reading.{sent_reading}
 use Rattle.sent_frame.specs.Frames.{HasFrame, HasNoCalibration, HasDrift, HasBrokenFrame, HasWrongCheck, HasBadPause}
 use Rattle.sent_fast.specs.declared.layout.Layout.{Layout}

@@ -1,7 +1,7 @@
 -- Which edges a SENT channel stands for between two gaps; this project's own.
 use Rattle.std.specs.Prelude.{◌≡◌, List, [], true}
+use Rattle.line_base.specs.Edges.{NumberedEdge}
 use Rattle.sent_frame.specs.Setup.{Settings}
-use Rattle.sent_frame.specs.Pulses.{NumberedEdge}
 use Rattle.sent_frame.specs.Reading.{sent_reading}
 use Rattle.sent_frame.specs.Readers.{StandsFor}
 use Rattle.sent_fast.specs.declared.layout.Layout.{Layout}

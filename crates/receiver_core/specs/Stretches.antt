@@ -1,8 +1,8 @@
 -- Which edges of a channel's items are read together: those that no gap parts; this project's own.
 use Rattle.std.specs.Prelude.{ℕ, ◌+◌, List, [], ◌∷◌, ◌++◌}
+use Rattle.line_base.specs.Edges.{NumberedEdge}
 use Rattle.line_base.specs.declared.edge.Item.{Item}
 use Rattle.line_base.specs.declared.edge.Item.TheVariants as item
-use Rattle.sent_frame.specs.Pulses.{NumberedEdge}
 
 -- the stretches of the last edges since a gap and of these items, which come after so many edges: a gap ends one and begins the next, and nothing is read behind an end
 unfoldable pub stretches_from : ℕ → List NumberedEdge → List Item → List (List NumberedEdge)

@@ -1,7 +1,7 @@
 //! One channel's receiver.
 ghost use Rattle.std.specs.Prelude.{◌≡◌, ◌^◌, ◌≤◌, ◌++◌, [], ◌∷◌, List, ℕ, Option, None};
+ghost use Rattle.line_base.specs.Edges.{NumberedEdge};
 ghost use Rattle.line_base.specs.declared.edge.Item.{Item};
-ghost use Rattle.sent_frame.specs.Pulses.{NumberedEdge};
 ghost use Rattle.receiver_core.specs.declared.setup.ChannelSetup.{ChannelSetup};
 ghost use Rattle.receiver_core.specs.Setups.{setup_fault_of};
 ghost use Rattle.receiver_core.specs.Channels.{edges_counted, so_far};

@@ -1,9 +1,9 @@
 //! A SENT channel between two gaps: frames, and what their nibbles say.
 ghost use Rattle.std.specs.Prelude.{◌≡◌, ◌+◌, ◌^◌, ◌≤◌, ◌++◌, ◌<◌, [], ◌∷◌, List, ℕ, Result, true};
+ghost use Rattle.line_base.specs.Edges.{NumberedEdge};
 ghost use Rattle.line_base.specs.declared.rule.Rule.{Rule};
 ghost use Rattle.arrayvec.specs.ArrayVec.{array_vec_len};
 ghost use Rattle.sent_frame.specs.Setup.{Settings};
-ghost use Rattle.sent_frame.specs.Pulses.{NumberedEdge};
 ghost use Rattle.sent_frame.specs.Reading.{sent_reading};
 ghost use Rattle.receiver_core.specs.Setups.{nibbles_fit};
 ghost use Rattle.receiver_core.specs.declared.setup.Serial.{Serial};

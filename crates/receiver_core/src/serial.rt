@@ -1,6 +1,6 @@
 //! The serial messages of a SENT channel.
 ghost use Rattle.std.specs.Prelude.{◌≡◌, ◌++◌, ◌<◌, [], ◌∷◌, List, ℕ};
-ghost use Rattle.sent_serial.specs.Readings.{steps_of};
+ghost use Rattle.sent_serial.specs.Steps.{steps_of};
 ghost use Rattle.receiver_core.specs.Serials.{serial_reading};
 
 use crate::setup::Serial;

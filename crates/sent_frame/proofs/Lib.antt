@@ -1,5 +1,5 @@
 pub mod Bounds
-pub mod Steps
+pub mod PulseLeads
 pub mod Edges
 pub mod Prefixes
 pub mod CarriedValues

@@ -1,19 +1,22 @@
 -- Each report of a list of pulses means something in these pulses.
 --     reports_mean        the reports of a list of pulses, each in these pulses
 --     later_mean          what holds of each report of a list holds of each of the last ones
-use Rattle.std.proofs.Common.{◌≡◌, ℕ, zero, suc, List, [], ◌∷◌, ◌++◌, Bool, true, false, not, ◌&&◌, inl, inr, ◌==◌, cond, if◌then◌else◌, length, take, drop, slice_index, refl, ap, sym, ◌∙◌, subst, append_assoc, append-nil, arith}
-use Rattle.std.proofs.lemmas.Bool.{and_parts, eqb-false, eqb-true, not-true}
+use Rattle.std.proofs.Common.{◌≡◌, ℕ, suc, List, [], ◌∷◌, ◌++◌, Bool, true, false, not, inl, inr, ◌==◌, cond, if◌then◌else◌, length, take, drop, slice_index, refl, ap, sym, ◌∙◌, subst, append-nil, arith}
+use Rattle.std.proofs.lemmas.Bool.{eqb-false, eqb-true}
 use Rattle.std.proofs.lemmas.List.{drop_at, take-append-drop}
-use Rattle.std.proofs.lemmas.List.Elements.{All-drop, All-from_recursion, All-same}
-use Rattle.std.specs.List.{All, AllByRecursion}
+use Rattle.std.proofs.lemmas.List.Elements.{All-drop, All-nil, All-same}
+use Rattle.std.specs.List.{All}
+use Rattle.line_base.specs.Readings.{Found}
+use Rattle.line_base.proofs.ReportMeanings.{FoundHas, read-all}
+use Rattle.line_base.specs.Readings.Found.{Past, Reported}
 use Rattle.line_base.specs.declared.rule.Rule.TheVariants as rule
 use Rattle.link_math.specs.Sent.{is_steady, is_pause}
 use Rattle.sent_frame.specs.declared.frame.SentStep.{SentStep}
 use Rattle.sent_frame.specs.declared.frame.SentStep.TheVariants.{Good, Bad}
 use Rattle.sent_frame.specs.Setup.{Settings}
 use Rattle.sent_frame.specs.Pulses.{Pulse}
-use Rattle.sent_frame.specs.Reading.{Standing, Hunting, PauseDue, CalibrationDue, Values, Carried, Broken, Short, Found, Passed, Waiting, Reported, crc_of, may_calibrate, place_at, frame_of, frame_from, hunted, found, has_drifted, go_on, reports_past, reports_of}
-use Rattle.sent_frame.specs.Frames.{BeginsFrame, IsSent, EndsInFrame, EndsInPause, HasDrift, Means}
+use Rattle.sent_frame.specs.Reading.{Standing, Hunting, PauseDue, CalibrationDue, Values, Carried, Broken, Short, crc_of, may_calibrate, place_at, frame_of, frame_from, hunted, found, found_hunting, reports_of}
+use Rattle.sent_frame.specs.Frames.{BeginsFrame, IsSent, EndsInFrame, EndsInPause, Means}
 use Rattle.sent_frame.proofs.CarriedValues.{IsCarried, ValuesMean, values_mean, is_sent}
 
 -- ---- how far the reading has come
@@ -23,31 +26,9 @@ Knows s Hunting used = Unit {0}
 Knows s (PauseDue c) used = (s.pause ≡ true) × EndsInFrame s used c
 Knows s (CalibrationDue c) used = EndsInPause s used c
 
--- the rest of the pulses is to be read, and so many of it are used up
-record IsReached (s : Settings) (pulses : List Pulse) (skip : ℕ) (standing : Standing) (rest : List Pulse) : Type 0 where
-  pub before : List Pulse
-  pub stands : pulses ≡ before ++ rest
-  pub knows : Knows s standing (before ++ take skip rest)
-
--- what stands at the front says this of the pulses
-abbrev FoundMeans : Settings → List Pulse → List Pulse → Found → Type 0
-FoundMeans s pulses rest (Passed standing) = IsReached s pulses 0 standing rest
-FoundMeans s pulses rest Waiting = Unit {0}
-FoundMeans s pulses rest (Reported report used standing) = Means s pulses report × IsReached s pulses used standing rest
-
-passed_over : (s : Settings) (pulses : List Pulse) (skip : ℕ) (standing : Standing) (pulse : Pulse) (rest : List Pulse) → IsReached s pulses (suc skip) standing (pulse ∷ rest) → IsReached s pulses skip standing rest
-passed_over s pulses skip standing pulse rest reached = record {
-  before = reached.before ++ pulse ∷ [];
-  stands = reached.stands ∙ sym (append_assoc reached.before (pulse ∷ []) rest);
-  knows = subst (Knows s standing) (sym (append_assoc reached.before (pulse ∷ []) (take skip rest))) reached.knows;
-}
-
-next_is : (s : Settings) (pulses before : List Pulse) (standing : Standing) (pulse : Pulse) (rest : List Pulse) → pulses ≡ before ++ pulse ∷ rest → Knows s standing (before ++ pulse ∷ []) → IsReached s pulses 0 standing rest
-next_is s pulses before standing pulse rest stands knows = record {
-  before = before ++ pulse ∷ [];
-  stands = stands ∙ sym (append_assoc before (pulse ∷ []) rest);
-  knows = subst (Knows s standing) (sym (append-nil (before ++ pulse ∷ []))) knows;
-}
+-- what stands at the front says this of the pulses, where the rest begins behind these
+abbrev FoundMeans : Settings → List Pulse → List Pulse → Pulse → List Pulse → Found SentStep Standing → Type 0
+FoundMeans s pulses before pulse rest f = FoundHas (Means s pulses) (λ used next. Knows s next (before ++ pulse ∷ take used rest)) f
 
 -- ---- a frame
 due_by : (s : Settings) (c : ℕ) (used : List Pulse) (test : Bool) → s.pause ≡ test → EndsInFrame s used c → Knows s (cond test (PauseDue c) (CalibrationDue c)) used
@@ -88,14 +69,14 @@ checked_means s pulses before calibration rest status values false stands calibr
 
 frame_means : (s : Settings) (pulses before : List Pulse) (calibration : Pulse) (rest : List Pulse) (values : Values)
     → pulses ≡ before ++ calibration ∷ rest → may_calibrate s calibration ≡ true → BeginsFrame s before calibration rest → ValuesMean calibration.length (suc (suc s.nibbles)) rest values
-    → FoundMeans s pulses rest (frame_of s calibration.length rest values)
+    → FoundMeans s pulses before calibration rest (frame_of s calibration.length rest values)
 frame_means s pulses before calibration rest (Carried []) stands calibrates begins mean = absurd (omega (arith, mean.as_many))
 frame_means s pulses before calibration rest (Carried (status ∷ values)) stands calibrates begins mean =
-    let frame : EndsInFrame s ((before ++ calibration ∷ []) ++ take (suc (suc s.nibbles)) rest) calibration.length = record {
+    let frame : EndsInFrame s (before ++ calibration ∷ take (suc (suc s.nibbles)) rest) calibration.length = record {
       before = before;
       calibration = calibration;
       others = take (suc (suc s.nibbles)) rest;
-      stands = append_assoc before (calibration ∷ []) (take (suc (suc s.nibbles)) rest);
+      stands = refl;
       frame = record { status = status; nibbles = take s.nibbles values };
       crc = slice_index values s.nibbles;
       place = place_at rest (suc s.nibbles);
@@ -103,11 +84,7 @@ frame_means s pulses before calibration rest (Carried (status ∷ values)) stand
       long = refl;
     } in (
       checked_means s pulses before calibration rest status values _ stands calibrates mean refl,
-      record {
-        before = before ++ calibration ∷ [];
-        stands = stands ∙ sym (append_assoc before (calibration ∷ []) rest);
-        knows = due_by s calibration.length _ s.pause refl frame;
-      },
+      due_by s calibration.length _ s.pause refl frame,
     )
 frame_means s pulses before calibration rest (Broken used broken) stands calibrates begins mean = (
   record {
@@ -125,44 +102,39 @@ frame_means s pulses before calibration rest (Broken used broken) stands calibra
     none = mean.none;
     ends = refl;
   },
-  record {
-    before = before ++ calibration ∷ [];
-    stands = stands ∙ sym (append_assoc before (calibration ∷ []) rest);
-    knows = tt;
-  },
+  tt,
 )
-frame_means s pulses before calibration rest Short stands calibrates begins mean = tt
+frame_means s pulses before calibration rest Short stands calibrates begins mean = All-nil (Means s pulses)
 
 -- ---- what stands at the front, by what is due
-hunted_means : (s : Settings) (pulses before : List Pulse) (pulse : Pulse) (rest : List Pulse) → pulses ≡ before ++ pulse ∷ rest → may_calibrate s pulse ≡ true → FoundMeans s pulses rest (hunted s pulse rest)
-hunted_means s pulses before pulse [] stands calibrates = tt
+hunted_means : (s : Settings) (pulses before : List Pulse) (pulse : Pulse) (rest : List Pulse) → pulses ≡ before ++ pulse ∷ rest → may_calibrate s pulse ≡ true → FoundMeans s pulses before pulse rest (hunted s pulse rest)
+hunted_means s pulses before pulse [] stands calibrates = All-nil (Means s pulses)
 hunted_means s pulses before pulse (next ∷ rest) stands calibrates = by_next (may_calibrate s next) refl
   where
-    by_next : (test : Bool) → may_calibrate s next ≡ test → FoundMeans s pulses (next ∷ rest) (cond test (Passed Hunting) (frame_from s pulse.length (next ∷ rest)))
-    by_next true again = next_is s pulses before Hunting pulse (next ∷ rest) stands tt
+    by_next : (test : Bool) → may_calibrate s next ≡ test → FoundMeans s pulses before pulse (next ∷ rest) (cond test (Past 0 Hunting) (frame_from s pulse.length (next ∷ rest)))
+    by_next true again = tt
     by_next false never = frame_means s pulses before pulse (next ∷ rest) _ stands calibrates (inl never) (values_mean pulse.length (suc (suc s.nibbles)) (next ∷ rest))
 
-hunting_means : (s : Settings) (pulses before : List Pulse) (pulse : Pulse) (rest : List Pulse) → pulses ≡ before ++ pulse ∷ rest → FoundMeans s pulses rest (found s Hunting pulse rest)
-unfolding found
+hunting_means : (s : Settings) (pulses before : List Pulse) (pulse : Pulse) (rest : List Pulse) → pulses ≡ before ++ pulse ∷ rest → FoundMeans s pulses before pulse rest (found_hunting s pulse rest)
 hunting_means s pulses before pulse rest stands = by_test (may_calibrate s pulse) refl
   where
-    by_test : (test : Bool) → may_calibrate s pulse ≡ test → FoundMeans s pulses rest (cond test (hunted s pulse rest) (Passed Hunting))
+    by_test : (test : Bool) → may_calibrate s pulse ≡ test → FoundMeans s pulses before pulse rest (cond test (hunted s pulse rest) (Past 0 Hunting))
     by_test true calibrates = hunted_means s pulses before pulse rest stands calibrates
-    by_test false never = next_is s pulses before Hunting pulse rest stands tt
+    by_test false never = tt
 
-pause_means : (s : Settings) (pulses before : List Pulse) (c : ℕ) (pulse : Pulse) (rest : List Pulse) → pulses ≡ before ++ pulse ∷ rest → s.pause ≡ true → EndsInFrame s before c → FoundMeans s pulses rest (found s (PauseDue c) pulse rest)
+pause_means : (s : Settings) (pulses before : List Pulse) (c : ℕ) (pulse : Pulse) (rest : List Pulse) → pulses ≡ before ++ pulse ∷ rest → s.pause ≡ true → EndsInFrame s before c → FoundMeans s pulses before pulse rest (found s (PauseDue c) pulse rest)
 unfolding found
 pause_means s pulses before c pulse rest stands due frame = by_test (is_pause pulse.length c) refl
   where
-    by_test : (test : Bool) → is_pause pulse.length c ≡ test → FoundMeans s pulses rest (cond test (Passed (CalibrationDue c)) (Reported (Bad pulse.place rule.PauseRange) 0 Hunting))
-    by_test true fits = next_is s pulses before (CalibrationDue c) pulse rest stands (record {
+    by_test : (test : Bool) → is_pause pulse.length c ≡ test → FoundMeans s pulses before pulse rest (cond test (Past 0 (CalibrationDue c)) (Reported (Bad pulse.place rule.PauseRange) (Past 0 Hunting)))
+    by_test true fits = record {
       before = before;
       pauses = pulse ∷ [];
       stands = refl;
       frame = frame;
       as_many = ap (λ test. if test then 1 else 0) due;
       fits = λ pause one. let same : pulse ≡ pause = cc in subst (λ (p : Pulse). is_pause p.length c ≡ true) same fits;
-    })
+    }
     by_test false unfit = (
       record {
         before = before;
@@ -175,25 +147,32 @@ pause_means s pulses before c pulse rest stands due frame = by_test (is_pause pu
         unfit = unfit;
         ends = refl;
       },
-      next_is s pulses before Hunting pulse rest stands tt,
+      tt,
     )
 
--- a pulse that may calibrate, where one is due, and hasn't drifted, is steady
-is_steady_where : (calibrates steady : Bool) → calibrates ≡ true → (calibrates && not steady) ≡ false → steady ≡ true
-is_steady_where true true calibrates no_drift = refl
-is_steady_where true false calibrates no_drift = absurd (cc)
-is_steady_where false steady calibrates no_drift = absurd (cc)
-
-calibration_means : (s : Settings) (pulses before : List Pulse) (c : ℕ) (pulse : Pulse) (rest : List Pulse) → pulses ≡ before ++ pulse ∷ rest → EndsInPause s before c → has_drifted s (CalibrationDue c) pulse ≡ false
-    → FoundMeans s pulses rest (found s (CalibrationDue c) pulse rest)
+calibration_means : (s : Settings) (pulses before : List Pulse) (c : ℕ) (pulse : Pulse) (rest : List Pulse) → pulses ≡ before ++ pulse ∷ rest → EndsInPause s before c → FoundMeans s pulses before pulse rest (found s (CalibrationDue c) pulse rest)
 unfolding found
-calibration_means s pulses before c pulse rest stands frame no_drift = by_test (may_calibrate s pulse) refl
+calibration_means s pulses before c pulse rest stands frame = by_test (may_calibrate s pulse) refl
   where
-    by_test : (test : Bool) → may_calibrate s pulse ≡ test → FoundMeans s pulses rest (cond test (frame_from s pulse.length rest) (Reported (Bad pulse.place rule.NoCalibration) 0 Hunting))
-    by_test true calibrates =
-        frame_means s pulses before pulse rest _ stands calibrates
-        (inr (record { length = c; frame = frame; steady = is_steady_where (may_calibrate s pulse) (is_steady c pulse.length) calibrates no_drift }))
-        (values_mean pulse.length (suc (suc s.nibbles)) rest)
+    by_steady : (test : Bool) → is_steady c pulse.length ≡ test → may_calibrate s pulse ≡ true → FoundMeans s pulses before pulse rest (cond test (frame_from s pulse.length rest) (Reported (Bad pulse.place rule.Drift) (found_hunting s pulse rest)))
+    by_steady true steady calibrates = frame_means s pulses before pulse rest _ stands calibrates (inr (record { length = c; frame = frame; steady = steady })) (values_mean pulse.length (suc (suc s.nibbles)) rest)
+    by_steady false drifted calibrates = (
+      record {
+        before = before;
+        pulse = pulse;
+        after = rest;
+        stands = stands;
+        length = c;
+        frame = frame;
+        calibrates = calibrates;
+        drifted = drifted;
+        ends = refl;
+      },
+      hunting_means s pulses before pulse rest stands,
+    )
+
+    by_test : (test : Bool) → may_calibrate s pulse ≡ test → FoundMeans s pulses before pulse rest (cond (not test) (Reported (Bad pulse.place rule.NoCalibration) (Past 0 Hunting)) (cond (is_steady c pulse.length) (frame_from s pulse.length rest) (Reported (Bad pulse.place rule.Drift) (found_hunting s pulse rest))))
+    by_test true calibrates = by_steady (is_steady c pulse.length) refl calibrates
     by_test false none = (
       record {
         before = before;
@@ -205,56 +184,18 @@ calibration_means s pulses before c pulse rest stands frame no_drift = by_test (
         none = none;
         ends = refl;
       },
-      next_is s pulses before Hunting pulse rest stands tt,
+      tt,
     )
 
-found_means : (s : Settings) (pulses before : List Pulse) (standing : Standing) (pulse : Pulse) (rest : List Pulse) → pulses ≡ before ++ pulse ∷ rest → Knows s standing before → has_drifted s standing pulse ≡ false
-    → FoundMeans s pulses rest (found s standing pulse rest)
-found_means s pulses before Hunting pulse rest stands knows no_drift = hunting_means s pulses before pulse rest stands
-found_means s pulses before (PauseDue c) pulse rest stands knows no_drift = pause_means s pulses before c pulse rest stands knows.0 knows.1
-found_means s pulses before (CalibrationDue c) pulse rest stands knows no_drift = calibration_means s pulses before c pulse rest stands knows no_drift
-
-drift_means : (s : Settings) (pulses before : List Pulse) (standing : Standing) (pulse : Pulse) (rest : List Pulse) → pulses ≡ before ++ pulse ∷ rest → Knows s standing before → has_drifted s standing pulse ≡ true → HasDrift s pulses pulse.place
-drift_means s pulses before Hunting pulse rest stands knows drifted = absurd (cc)
-drift_means s pulses before (PauseDue c) pulse rest stands knows drifted = absurd (cc)
-drift_means s pulses before (CalibrationDue c) pulse rest stands knows drifted = record {
-  before = before;
-  pulse = pulse;
-  after = rest;
-  stands = stands;
-  length = c;
-  frame = knows;
-  calibrates = (and_parts (may_calibrate s pulse) (not (is_steady c pulse.length)) drifted).0;
-  drifted = not-true (is_steady c pulse.length) (and_parts (may_calibrate s pulse) (not (is_steady c pulse.length)) drifted).1;
-  ends = refl;
-}
-
--- ---- all reports
--- the rest of the pulses has been read so, from wherever the reading has reached
-abbrev AllMean : Settings → List Pulse → List Pulse → Type 0
-AllMean s pulses rest = (used : ℕ) (standing : Standing) → IsReached s pulses used standing rest → AllByRecursion (Means s pulses) (reports_past s used standing rest)
-
-goes_on : (s : Settings) (pulses rest : List Pulse) (f : Found) → FoundMeans s pulses rest f → AllMean s pulses rest → AllByRecursion (Means s pulses) (go_on f (λ used standing. reports_past s used standing rest))
-goes_on s pulses rest (Passed standing) mean later = later 0 standing mean
-goes_on s pulses rest Waiting mean later = tt
-goes_on s pulses rest (Reported report used standing) mean later = (mean.0, later used standing mean.1)
-
-pulse_means : (s : Settings) (pulses before : List Pulse) (standing : Standing) (pulse : Pulse) (rest : List Pulse) (test : Bool) → has_drifted s standing pulse ≡ test → pulses ≡ before ++ pulse ∷ rest → Knows s standing before → AllMean s pulses rest
-    → AllByRecursion (Means s pulses) (cond test (Bad pulse.place rule.Drift ∷ go_on (found s Hunting pulse rest) (λ used standing. reports_past s used standing rest)) (go_on (found s standing pulse rest) (λ used standing. reports_past s used standing rest)))
-pulse_means s pulses before standing pulse rest true drifted stands knows later =
-    (drift_means s pulses before standing pulse rest stands knows drifted, goes_on s pulses rest (found s Hunting pulse rest) (hunting_means s pulses before pulse rest stands) later)
-pulse_means s pulses before standing pulse rest false no_drift stands knows later = goes_on s pulses rest (found s standing pulse rest) (found_means s pulses before standing pulse rest stands knows no_drift) later
-
-rest_means : (s : Settings) (pulses : List Pulse) (rest : List Pulse) → AllMean s pulses rest
-unfolding reports_past
-rest_means s pulses [] skip standing reached = tt
-rest_means s pulses (pulse ∷ rest) (suc skip) standing reached = rest_means s pulses rest skip standing (passed_over s pulses skip standing pulse rest reached)
-rest_means s pulses (pulse ∷ rest) zero standing reached =
-    pulse_means s pulses reached.before standing pulse rest _ refl reached.stands (subst (Knows s standing) (append-nil reached.before) reached.knows) (rest_means s pulses rest)
+found_means : (s : Settings) (pulses before : List Pulse) (standing : Standing) (pulse : Pulse) (rest : List Pulse) → pulses ≡ before ++ pulse ∷ rest → Knows s standing before → FoundMeans s pulses before pulse rest (found s standing pulse rest)
+unfolding found
+found_means s pulses before Hunting pulse rest stands knows = hunting_means s pulses before pulse rest stands
+found_means s pulses before (PauseDue c) pulse rest stands knows = pause_means s pulses before c pulse rest stands knows.0 knows.1
+found_means s pulses before (CalibrationDue c) pulse rest stands knows = calibration_means s pulses before c pulse rest stands knows
 
 -- each report of a list of pulses, read from its start, means something in these pulses
 pub reports_mean : (s : Settings) (pulses : List Pulse) → All (Means s pulses) (reports_of s pulses)
-reports_mean s pulses = All-from_recursion (Means s pulses) (reports_of s pulses) (rest_means s pulses pulses 0 Hunting (record { before = []; stands = refl; knows = tt }))
+reports_mean s pulses = read-all (found s) Hunting (Means s pulses) (Knows s) pulses (record { each = λ standing before pulse rest stands knows. found_means s pulses before standing pulse rest stands knows }) tt
 
 -- what holds of each report of a list holds of each of the last ones
 pub later_mean : (P : SentStep → Type 0) (all before later : List SentStep) → all ≡ before ++ later → All P all → All P later

@@ -1,21 +1,16 @@
 -- What was reported stays when more pulses come.
-use Rattle.std.proofs.Common.{◌≡◌, ◌⊎◌, inl, inr, ℕ, zero, suc, List, [], ◌∷◌, ◌++◌, Bool, true, false, cond, Option, None, Some, refl, ap, ◌∙◌}
+use Rattle.std.proofs.Common.{◌≡◌, ◌⊎◌, inl, inr, ℕ, zero, suc, List, [], ◌∷◌, ◌++◌, Bool, true, false, not, cond, Option, None, Some, refl, ap, ◌∙◌}
+use Rattle.line_base.specs.Edges.{NumberedEdge}
 use Rattle.line_base.specs.Streams.{IsFrontOf}
 use Rattle.line_base.specs.declared.rule.Rule.TheVariants as rule
-use Rattle.link_math.specs.Sent.{value_of}
-use Rattle.sent_frame.specs.declared.frame.SentStep.{SentStep}
+use Rattle.line_base.proofs.Fronts.{IsFrontOf-after, IsFrontOf-nil}
+use Rattle.line_base.proofs.Readings.{Keeps, KeepsFound, keeps-alike, keeps-cond, keeps-same, keeps-waits, read-front}
+use Rattle.line_base.specs.Readings.Found.{Past, Reported}
+use Rattle.link_math.specs.Sent.{is_steady, value_of}
 use Rattle.sent_frame.specs.declared.frame.SentStep.TheVariants.{Bad}
 use Rattle.sent_frame.specs.Setup.{Settings}
-use Rattle.sent_frame.specs.Pulses.{Pulse, Fall, NumberedEdge, falls_in, falls_of, pulses_after, pulses_between, pulses_of}
-use Rattle.sent_frame.specs.Reading.{Standing, Hunting, PauseDue, CalibrationDue, Values, Carried, Broken, Short, values_of, with_value, Found, Passed, Waiting, Reported, may_calibrate, place_at, checked, due_after, frame_of, frame_from, hunted, found, has_drifted, go_on, reports_past, sent_reading}
-
--- nothing is a front of any list
-pub front-none : {A : Type 0} (xs : List A) → IsFrontOf [] xs
-front-none xs = record { rest = xs; is = refl }
-
--- two lists with the same first element
-pub front-cons : {A : Type 0} (x : A) (xs ys : List A) → IsFrontOf xs ys → IsFrontOf (x ∷ xs) (x ∷ ys)
-front-cons x xs ys h = record { rest = h.rest; is = ap (λ zs. x ∷ zs) h.is }
+use Rattle.sent_frame.specs.Pulses.{Pulse, Fall, falls_in, falls_of, pulses_after, pulses_between, pulses_of}
+use Rattle.sent_frame.specs.Reading.{Standing, Hunting, PauseDue, CalibrationDue, Values, Carried, Broken, Short, values_of, with_value, may_calibrate, place_at, checked, due_after, frame_of, frame_from, hunted, found, found_hunting, reports_of, sent_reading}
 
 -- unless there are too few pulses, more of them change no values
 abbrev StayValues : ℕ → ℕ → List Pulse → List Pulse → Type 0
@@ -49,65 +44,37 @@ places-stay c zero (p ∷ ps) more vs e = refl
 places-stay c (suc k) (p ∷ ps) more vs e =
     let rest = carried_rest p (value_of p.length c) (values_of c (suc k) ps) vs e in places-stay c k ps more rest.0 rest.1
 
--- unless something waits, more pulses change nothing that is found
-abbrev Stays : Found → Found → Type 0
-Stays f g = (f ≡ Waiting) ⊎ (g ≡ f)
+frame_keeps : (s : Settings) (c : ℕ) (ps more : List Pulse) (v w : Values) → values_of c (suc (suc s.nibbles)) ps ≡ v → (v ≡ Short) ⊎ (w ≡ v) → Keeps (frame_of s c ps v) (frame_of s c (ps ++ more) w)
+frame_keeps s c ps more v w e (inl short) = keeps-waits (frame_of s c ps v) (frame_of s c (ps ++ more) w) [] (ap (frame_of s c ps) short)
+frame_keeps s c ps more (Carried vs) w e (inr same) =
+    let now = frame_of s c ps (Carried vs) in
+    keeps-alike now (frame_of s c (ps ++ more) w) now refl
+    (ap (frame_of s c (ps ++ more)) same ∙ ap (λ place. Reported (checked s place vs) (Past (suc (suc s.nibbles)) (due_after s c))) (places-stay c (suc s.nibbles) ps more vs e))
+frame_keeps s c ps more (Broken count broken) w e (inr same) =
+    let now = frame_of s c ps (Broken count broken) in keeps-alike now (frame_of s c (ps ++ more) w) now refl (ap (frame_of s c (ps ++ more)) same)
+frame_keeps s c ps more Short w e (inr same) = tt
 
-frame_stays : (s : Settings) (c : ℕ) (ps more : List Pulse) (v w : Values) → values_of c (suc (suc s.nibbles)) ps ≡ v → (v ≡ Short) ⊎ (w ≡ v) → Stays (frame_of s c ps v) (frame_of s c (ps ++ more) w)
-frame_stays s c ps more v w e (inl short) = inl (ap (frame_of s c ps) short)
-frame_stays s c ps more (Carried vs) w e (inr same) =
-    inr (ap (frame_of s c (ps ++ more)) same ∙ ap (λ place. Reported (checked s place vs) (suc (suc s.nibbles)) (due_after s c)) (places-stay c (suc s.nibbles) ps more vs e))
-frame_stays s c ps more (Broken count broken) w e (inr same) = inr (ap (frame_of s c (ps ++ more)) same)
-frame_stays s c ps more Short w e (inr same) = inl refl
+frame-keeps : (s : Settings) (c : ℕ) (ps more : List Pulse) → Keeps (frame_from s c ps) (frame_from s c (ps ++ more))
+frame-keeps s c ps more = frame_keeps s c ps more (values_of c (suc (suc s.nibbles)) ps) (values_of c (suc (suc s.nibbles)) (ps ++ more)) refl (values-stay c (suc (suc s.nibbles)) ps more)
 
-frame-stays : (s : Settings) (c : ℕ) (ps more : List Pulse) → Stays (frame_from s c ps) (frame_from s c (ps ++ more))
-frame-stays s c ps more = frame_stays s c ps more (values_of c (suc (suc s.nibbles)) ps) (values_of c (suc (suc s.nibbles)) (ps ++ more)) refl (values-stay c (suc (suc s.nibbles)) ps more)
+hunted-keeps : (s : Settings) (p : Pulse) (ps more : List Pulse) → Keeps (hunted s p ps) (hunted s p (ps ++ more))
+hunted-keeps s p [] more = tt
+hunted-keeps s p (q ∷ ps) more = keeps-cond (may_calibrate s q) (Past 0 Hunting) _ _ _ refl (frame-keeps s p.length (q ∷ ps) more)
 
-choice : (b : Bool) (f g h : Found) → Stays f g → Stays (cond b f h) (cond b g h)
-choice true f g h stays = stays
-choice false f g h stays = inr refl
+hunting-keeps : (s : Settings) (p : Pulse) (ps more : List Pulse) → Keeps (found_hunting s p ps) (found_hunting s p (ps ++ more))
+hunting-keeps s p ps more = keeps-cond (may_calibrate s p) (hunted s p ps) (hunted s p (ps ++ more)) _ _ (hunted-keeps s p ps more) refl
 
-other : (b : Bool) (f g h : Found) → Stays f g → Stays (cond b h f) (cond b h g)
-other true f g h stays = inr refl
-other false f g h stays = stays
-
-hunted-stays : (s : Settings) (p : Pulse) (ps more : List Pulse) → Stays (hunted s p ps) (hunted s p (ps ++ more))
-hunted-stays s p [] more = inl refl
-hunted-stays s p (q ∷ ps) more = other (may_calibrate s q) (frame_from s p.length (q ∷ ps)) (frame_from s p.length (q ∷ ps ++ more)) (Passed Hunting) (frame-stays s p.length (q ∷ ps) more)
-
-found-stays : (s : Settings) (standing : Standing) (p : Pulse) (ps more : List Pulse) → Stays (found s standing p ps) (found s standing p (ps ++ more))
+found_keeps : (s : Settings) (standing : Standing) (p : Pulse) (ps more : List Pulse) → Keeps (found s standing p ps) (found s standing p (ps ++ more))
 unfolding found
-found-stays s Hunting p ps more = choice (may_calibrate s p) (hunted s p ps) (hunted s p (ps ++ more)) (Passed Hunting) (hunted-stays s p ps more)
-found-stays s (PauseDue c) p ps more = inr refl
-found-stays s (CalibrationDue c) p ps more =
-    choice (may_calibrate s p) (frame_from s p.length ps) (frame_from s p.length (ps ++ more)) (Reported (Bad p.place rule.NoCalibration) 0 Hunting) (frame-stays s p.length ps more)
+found_keeps s Hunting p ps more = hunting-keeps s p ps more
+found_keeps s (PauseDue c) p ps more = keeps-same (found s (PauseDue c) p ps)
+found_keeps s (CalibrationDue c) p ps more =
+    keeps-cond (not (may_calibrate s p)) (Reported (Bad p.place rule.NoCalibration) (Past 0 Hunting)) _ _ _ (keeps-same (Reported (Bad p.place rule.NoCalibration) (Past 0 Hunting)))
+    (keeps-cond (is_steady c p.length) (frame_from s p.length ps) (frame_from s p.length (ps ++ more)) _ _ (frame-keeps s p.length ps more) (found_hunting s p (ps ++ more), refl, hunting-keeps s p ps more))
 
--- the reports of what comes later are a front of those of more
-abbrev LaterFront : (ℕ → Standing → List SentStep) → (ℕ → Standing → List SentStep) → Type 0
-LaterFront later more = (used : ℕ) (standing : Standing) → IsFrontOf (later used standing) (more used standing)
-
-same_found : (f : Found) (later more : ℕ → Standing → List SentStep) → LaterFront later more → IsFrontOf (go_on f later) (go_on f more)
-same_found (Passed standing) later more h = h 0 standing
-same_found Waiting later more h = front-none []
-same_found (Reported report used standing) later more h = front-cons report _ _ (h used standing)
-
-gone_on : (f g : Found) (later more : ℕ → Standing → List SentStep) → Stays f g → LaterFront later more → IsFrontOf (go_on f later) (go_on g more)
-gone_on f g later more (inl waits) h = rw waits (front-none (go_on g more))
-gone_on f g later more (inr same) h = rw same (same_found f later more h)
-
-chosen : (b : Bool) (r : SentStep) (xs ys us vs : List SentStep) → IsFrontOf xs ys → IsFrontOf us vs → IsFrontOf (cond b (r ∷ xs) us) (cond b (r ∷ ys) vs)
-chosen true r xs ys us vs h k = front-cons r xs ys h
-chosen false r xs ys us vs h k = k
-
--- the reports of some pulses are a front of those of these and more
-pub reports-front : (s : Settings) (skip : ℕ) (standing : Standing) (ps more : List Pulse) → IsFrontOf (reports_past s skip standing ps) (reports_past s skip standing (ps ++ more))
-unfolding reports_past
-reports-front s skip standing [] more = front-none _
-reports-front s (suc skip) standing (p ∷ ps) more = reports-front s skip standing ps more
-reports-front s zero standing (p ∷ ps) more =
-    chosen (has_drifted s standing p) (Bad p.place rule.Drift) _ _ _ _
-    (gone_on (found s Hunting p ps) (found s Hunting p (ps ++ more)) (λ used next. reports_past s used next ps) (λ used next. reports_past s used next (ps ++ more)) (found-stays s Hunting p ps more) (λ used next. reports-front s used next ps more))
-    (gone_on (found s standing p ps) (found s standing p (ps ++ more)) (λ used next. reports_past s used next ps) (λ used next. reports_past s used next (ps ++ more)) (found-stays s standing p ps more) (λ used next. reports-front s used next ps more))
+-- what is found stays when more pulses come
+pub found-keeps : (s : Settings) → KeepsFound (found s)
+found-keeps s = record { each = λ standing p ps more. found_keeps s standing p ps more }
 
 falls_more : (b : Bool) (f : Fall) (xs ys zs : List Fall) → zs ≡ xs ++ ys → cond b zs (f ∷ zs) ≡ cond b xs (f ∷ xs) ++ ys
 falls_more true f xs ys zs e = e
@@ -118,15 +85,15 @@ falls_in-append [] more = refl
 falls_in-append (e ∷ es) more = falls_more e.edge.level (record { number = e.number; time = e.edge.time }) (falls_in es) (falls_in more) (falls_in (es ++ more)) (falls_in-append es more)
 
 pulses_after-front : (before : ℕ) (fs more : List Fall) → IsFrontOf (pulses_after before fs) (pulses_after before (fs ++ more))
-pulses_after-front before [] more = front-none _
-pulses_after-front before (f ∷ fs) more = front-cons _ _ _ (pulses_after-front f.time fs more)
+pulses_after-front before [] more = IsFrontOf-nil _
+pulses_after-front before (f ∷ fs) more = IsFrontOf-after (_ ∷ []) (pulses_after-front f.time fs more)
 
 pulses_between-front : (fs more : List Fall) → IsFrontOf (pulses_between fs) (pulses_between (fs ++ more))
-pulses_between-front [] more = front-none _
+pulses_between-front [] more = IsFrontOf-nil _
 pulses_between-front (f ∷ fs) more = pulses_after-front f.time fs more
 
 falls_of-front : (es more : List NumberedEdge) → IsFrontOf (falls_of es) (falls_of (es ++ more))
-falls_of-front [] more = front-none _
+falls_of-front [] more = IsFrontOf-nil _
 falls_of-front (opening ∷ es) more = record { rest = falls_in more; is = falls_in-append es more }
 
 -- the pulses of some edges are a front of those of these and more
@@ -140,5 +107,5 @@ pulses-front es more =
 pub reading-front : (s : Settings) (es more : List NumberedEdge) → IsFrontOf (sent_reading s es) (sent_reading s (es ++ more))
 reading-front s es more =
     let pulses = pulses-front es more in
-    let reports = reports-front s 0 Hunting (pulses_of es) pulses.rest in
-    record { rest = reports.rest; is = ap (reports_past s 0 Hunting) pulses.is ∙ reports.is }
+    let reports = read-front (found s) (found-keeps s) 0 Hunting (pulses_of es) pulses.rest in
+    record { rest = reports.rest; is = ap (reports_of s) pulses.is ∙ reports.is }

@@ -1,6 +1,5 @@
--- What a SENT reader of bounded state has kept, by the reports that it still leads to; this project's own.
-use Rattle.std.specs.Prelude.{◌≡◌, ℕ, suc, ◌-◌, ◌^◌, ◌<◌, ◌≤◌, List, [], ◌∷◌, ◌++◌, true, length}
-use Rattle.line_base.specs.declared.rule.Rule.TheVariants as rule
+-- What a position of a SENT reader stands for: what is due, and which pulses it has kept; this project's own.
+use Rattle.std.specs.Prelude.{◌≡◌, ℕ, suc, ◌^◌, ◌<◌, ◌≤◌, List, [], ◌∷◌, ◌++◌, true, length}
 use Rattle.link_math.specs.Sent.{is_calibration}
 use Rattle.sent_frame.specs.declared.frame.SentStep.{SentStep}
 use Rattle.sent_frame.specs.declared.frame.SentStep.TheVariants.{Nothing, Good, Bad}
@@ -8,7 +7,7 @@ use Rattle.sent_frame.specs.declared.position.Position.{Position}
 use Rattle.sent_frame.specs.declared.position.Position.TheVariants as position
 use Rattle.sent_frame.specs.Setup.{Settings}
 use Rattle.sent_frame.specs.Pulses.{Pulse}
-use Rattle.sent_frame.specs.Reading.{Hunting, PauseDue, CalibrationDue, Values, Carried, Broken, Short, values_of, Found, Waiting, Reported, due_after, place_at, checked, go_on, reports_past}
+use Rattle.sent_frame.specs.Reading.{Standing, Hunting, PauseDue, CalibrationDue, Carried, values_of, frame_from, found}
 
 -- the report of a step, if there is one
 abbrev pub steps_of : SentStep → List SentStep
@@ -16,25 +15,29 @@ steps_of Nothing = []
 steps_of (Good place frame) = Good place frame ∷ []
 steps_of (Bad place rule) = Bad place rule ∷ []
 
--- what the next pulses come to, where these values of the frame are there and one more than this count is missing
-abbrev pub completed : Settings → ℕ → List ℕ → ℕ → List Pulse → Values → Found
-completed s calibration before missing pulses (Carried values) =
-    Reported (checked s (place_at pulses missing) (before ++ values)) (suc missing) (due_after s calibration)
-completed s calibration before missing pulses (Broken count broken) = Reported (Bad broken.place rule.NibbleRange) count Hunting
-completed s calibration before missing pulses Short = Waiting
+-- while hunting, one pulse of this length is kept
+pub record IsCandidate (calibration : ℕ) (due : Standing) (kept : List Pulse) : Type 0 where
+  pub pulse : Pulse
+  pub hunts : due ≡ Hunting
+  pub stands : kept ≡ pulse ∷ []
+  pub long : pulse.length ≡ calibration
 
--- the reports of the next pulses, where these values of a frame are there and one more than this count is missing
-unfoldable pub frame_reads : Settings → ℕ → List ℕ → ℕ → List Pulse → List SentStep
-frame_reads s calibration before missing pulses =
-    go_on (completed s calibration before missing pulses (values_of calibration (suc missing) pulses)) (λ used next. reports_past s used next pulses)
+-- the first of the kept pulses is a frame's calibration pulse of this length, whatever comes behind the next ones, and the pulses kept after it carry these values
+pub record IsInFrame (s : Settings) (calibration : ℕ) (values : List ℕ) (due : Standing) (kept next : List Pulse) : Type 0 where
+  pub first : Pulse
+  pub later : List Pulse
+  pub stands : kept ≡ first ∷ later
+  pub begins : (more : List Pulse) → found s due first (later ++ (next ++ more)) ≡ frame_from s calibration (later ++ (next ++ more))
+  pub as_many : length values ≡ length later
+  pub carried : values_of calibration (length later) later ≡ Carried values
 
--- the reports that the next pulses lead to
-unfoldable pub reads_on : Settings → Position → List Pulse → List SentStep
-reads_on s position.Hunting pulses = reports_past s 0 Hunting pulses
-reads_on s (position.Candidate calibration) pulses = reports_past s 0 Hunting (record { place = 0; length = calibration } ∷ pulses)
-reads_on s (position.Frame calibration values) pulses = frame_reads s calibration values (suc s.nibbles - length values) pulses
-reads_on s (position.Pause calibration) pulses = reports_past s 0 (PauseDue calibration) pulses
-reads_on s (position.Calibration calibration) pulses = reports_past s 0 (CalibrationDue calibration) pulses
+-- a reader at this position has this due, and has kept these pulses
+abbrev pub AgreesPosition : Settings → Position → Standing → List Pulse → Type 0
+AgreesPosition s position.Hunting due kept = (due ≡ Hunting) × (kept ≡ [])
+AgreesPosition s (position.Candidate calibration) due kept = IsCandidate calibration due kept
+AgreesPosition s (position.Frame calibration values) due kept = IsInFrame s calibration values due kept []
+AgreesPosition s (position.Pause calibration) due kept = (due ≡ PauseDue calibration) × (kept ≡ [])
+AgreesPosition s (position.Calibration calibration) due kept = (due ≡ CalibrationDue calibration) × (kept ≡ [])
 
 -- a kept calibration pulse may be one, and is 1 to 10^15 ns long
 pub record IsKeptPulse (s : Settings) (calibration : ℕ) : Type 0 where

@@ -1,11 +1,6 @@
 -- SENT pulses, from falling edge to falling edge (SAE J2716).
 use Rattle.std.specs.Prelude.{ℕ, ◌-◌, List, [], ◌∷◌, if◌then◌else◌}
-use Rattle.line_base.specs.declared.edge.Edge.{Edge}
-
--- an edge, with its number in the channel
-pub record NumberedEdge : Type 0 where
-  pub number : ℕ
-  pub edge : Edge
+use Rattle.line_base.specs.Edges.{NumberedEdge}
 
 -- a falling edge: its number, and its time in ns
 pub record Fall : Type 0 where

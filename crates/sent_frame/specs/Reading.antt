@@ -1,5 +1,8 @@
 -- How a list of SENT pulses is read (frames: SAE J2716; what follows a fault: this project's own).
-use Rattle.std.specs.Prelude.{ℕ, zero, suc, List, [], ◌∷◌, Bool, false, ◌&&◌, not, ◌==◌, if◌then◌else◌, Option, None, Some, take, slice_index}
+use Rattle.std.specs.Prelude.{ℕ, zero, suc, List, [], ◌∷◌, Bool, not, ◌==◌, if◌then◌else◌, Option, None, Some, take, slice_index}
+use Rattle.line_base.specs.Edges.{NumberedEdge}
+use Rattle.line_base.specs.Readings.{Found, read_past}
+use Rattle.line_base.specs.Readings.Found.{Waiting, Past, Reported}
 use Rattle.line_base.specs.declared.rule.Rule.TheVariants as rule
 use Rattle.link_math.specs.Sent.{is_calibration, is_steady, is_pause, value_of}
 use Rattle.link_math.specs.Checks.{crc4_of, crc4_legacy_of}
@@ -8,7 +11,7 @@ use Rattle.sent_frame.specs.declared.setup.CrcForm.TheVariants as crc
 use Rattle.sent_frame.specs.declared.frame.SentStep.{SentStep}
 use Rattle.sent_frame.specs.declared.frame.SentStep.TheVariants.{Good, Bad}
 use Rattle.sent_frame.specs.Setup.{Settings}
-use Rattle.sent_frame.specs.Pulses.{NumberedEdge, Pulse, pulses_of}
+use Rattle.sent_frame.specs.Pulses.{Pulse, pulses_of}
 
 -- the CRC of the data nibbles, in the form of the setup
 abbrev pub crc_of : CrcForm → List ℕ → ℕ
@@ -44,12 +47,6 @@ pub data Standing : Type 0 where
   PauseDue : ℕ → Standing
   CalibrationDue : ℕ → Standing
 
--- what stands at the front of the pulses: a pulse that is passed over; something unfinished; or a report that uses up so many of the pulses after the first
-pub data Found : Type 0 where
-  Passed : Standing → Found
-  Waiting : Found
-  Reported : SentStep → ℕ → Standing → Found
-
 -- what is due after a frame whose calibration pulse had this length
 abbrev pub due_after : Settings → ℕ → Standing
 due_after s calibration = if s.pause then PauseDue calibration else CalibrationDue calibration
@@ -69,53 +66,38 @@ checked s place (status ∷ values) =
     else Bad place rule.Check
 
 -- what the pulses after a calibration pulse come to
-abbrev pub frame_of : Settings → ℕ → List Pulse → Values → Found
+abbrev pub frame_of : Settings → ℕ → List Pulse → Values → Found SentStep Standing
 frame_of s calibration pulses (Carried values) =
-    Reported (checked s (place_at pulses (suc s.nibbles)) values) (suc (suc s.nibbles)) (due_after s calibration)
-frame_of s calibration pulses (Broken count broken) = Reported (Bad broken.place rule.NibbleRange) count Hunting
-frame_of s calibration pulses Short = Waiting
+    Reported (checked s (place_at pulses (suc s.nibbles)) values) (Past (suc (suc s.nibbles)) (due_after s calibration))
+frame_of s calibration pulses (Broken count broken) = Reported (Bad broken.place rule.NibbleRange) (Past count Hunting)
+frame_of s calibration pulses Short = Waiting []
 
 -- the frame whose calibration pulse has this length: a status, the data nibbles and the CRC
-abbrev pub frame_from : Settings → ℕ → List Pulse → Found
+abbrev pub frame_from : Settings → ℕ → List Pulse → Found SentStep Standing
 frame_from s calibration pulses = frame_of s calibration pulses (values_of calibration (suc (suc s.nibbles)) pulses)
 
 -- what a pulse that may calibrate begins, while hunting: a false start where the next one may calibrate too, else a frame
-abbrev pub hunted : Settings → Pulse → List Pulse → Found
-hunted s pulse [] = Waiting
-hunted s pulse (next ∷ pulses) = if may_calibrate s next then Passed Hunting else frame_from s pulse.length (next ∷ pulses)
+abbrev pub hunted : Settings → Pulse → List Pulse → Found SentStep Standing
+hunted s pulse [] = Waiting []
+hunted s pulse (next ∷ pulses) = if may_calibrate s next then Past 0 Hunting else frame_from s pulse.length (next ∷ pulses)
 
--- what stands at the front, by what is due
-unfoldable pub found : Settings → Standing → Pulse → List Pulse → Found
-found s Hunting pulse pulses = if may_calibrate s pulse then hunted s pulse pulses else Passed Hunting
+-- what stands at the front, while hunting
+abbrev pub found_hunting : Settings → Pulse → List Pulse → Found SentStep Standing
+found_hunting s pulse pulses = if may_calibrate s pulse then hunted s pulse pulses else Past 0 Hunting
+
+-- what stands at the front, by what is due; a calibration pulse that isn't steady with the one before is reported, and read again as in hunting
+unfoldable pub found : Settings → Standing → Pulse → List Pulse → Found SentStep Standing
+found s Hunting pulse pulses = found_hunting s pulse pulses
 found s (PauseDue calibration) pulse pulses =
-    if is_pause pulse.length calibration then Passed (CalibrationDue calibration) else Reported (Bad pulse.place rule.PauseRange) 0 Hunting
+    if is_pause pulse.length calibration then Past 0 (CalibrationDue calibration) else Reported (Bad pulse.place rule.PauseRange) (Past 0 Hunting)
 found s (CalibrationDue calibration) pulse pulses =
-    if may_calibrate s pulse then frame_from s pulse.length pulses else Reported (Bad pulse.place rule.NoCalibration) 0 Hunting
-
--- a calibration pulse was due, this pulse may be one, and it isn't steady with the one before
-abbrev pub has_drifted : Settings → Standing → Pulse → Bool
-has_drifted s Hunting pulse = false
-has_drifted s (PauseDue calibration) pulse = false
-has_drifted s (CalibrationDue calibration) pulse = may_calibrate s pulse && not (is_steady calibration pulse.length)
-
--- the reports that begin with what was found, and go on with what comes after it
-abbrev pub go_on : Found → (ℕ → Standing → List SentStep) → List SentStep
-go_on (Passed standing) later = later 0 standing
-go_on Waiting later = []
-go_on (Reported report used standing) later = report ∷ later used standing
-
--- the reports of a list of pulses, so many of which are used up already; a pulse that drifted is reported and read again as in hunting
-unfoldable pub reports_past : Settings → ℕ → Standing → List Pulse → List SentStep
-reports_past s skip standing [] = []
-reports_past s (suc skip) standing (pulse ∷ pulses) = reports_past s skip standing pulses
-reports_past s zero standing (pulse ∷ pulses) =
-    if has_drifted s standing pulse
-    then Bad pulse.place rule.Drift ∷ go_on (found s Hunting pulse pulses) (λ used next. reports_past s used next pulses)
-    else go_on (found s standing pulse pulses) (λ used next. reports_past s used next pulses)
+    if not (may_calibrate s pulse) then Reported (Bad pulse.place rule.NoCalibration) (Past 0 Hunting)
+    else (if is_steady calibration pulse.length then frame_from s pulse.length pulses
+    else Reported (Bad pulse.place rule.Drift) (found_hunting s pulse pulses))
 
 -- the reports of a list of pulses, read from its start
 abbrev pub reports_of : Settings → List Pulse → List SentStep
-reports_of s pulses = reports_past s 0 Hunting pulses
+reports_of s pulses = read_past (found s) 0 Hunting pulses
 
 -- the reports of a line's edges
 abbrev pub sent_reading : Settings → List NumberedEdge → List SentStep

@@ -1,7 +1,8 @@
 //! What the reports of a line's edges stand for in its pulses.
 ghost use Rattle.std.specs.Prelude.{All, List};
+ghost use Rattle.line_base.specs.Edges.{NumberedEdge};
 ghost use Rattle.sent_frame.specs.Setup.{Settings};
-ghost use Rattle.sent_frame.specs.Pulses.{NumberedEdge, pulses_of};
+ghost use Rattle.sent_frame.specs.Pulses.{pulses_of};
 ghost use Rattle.sent_frame.specs.Reading.{sent_reading};
 ghost use Rattle.sent_frame.specs.Frames.{Means};
 

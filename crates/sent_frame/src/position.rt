@@ -1,9 +1,10 @@
 //! Where a reader stands between two pulses.
-ghost use Rattle.std.specs.Prelude.{IsTrue, ◌≡◌, ◌+◌, ◌^◌, ◌≤◌, ◌++◌, ◌∷◌, List, ℕ, length};
+ghost use Rattle.std.specs.Prelude.{IsTrue, false, ◌≡◌, ◌+◌, ◌^◌, ◌≤◌, ◌++◌, [], ◌∷◌, List, ℕ, length};
+ghost use Rattle.line_base.specs.Standing.{Led, Leads};
 ghost use Rattle.link_math.specs.Sent.{is_calibration};
 ghost use Rattle.sent_frame.specs.Pulses.{Pulse};
-ghost use Rattle.sent_frame.specs.Reading.{Hunting, due_after, reports_past, checked};
-ghost use Rattle.sent_frame.specs.Positions.{IsKeptPulse, IsPosition, reads_on, steps_of};
+ghost use Rattle.sent_frame.specs.Reading.{Standing, Hunting, due_after, checked, found};
+ghost use Rattle.sent_frame.specs.Positions.{AgreesPosition, IsInFrame, IsKeptPulse, IsPosition, steps_of};
 
 use crate::crc::crc_nibble;
 use crate::frame::{SentFrame, SentStep};
@@ -54,8 +55,7 @@ fn may_calibrate(setup: &SentSetup, pulse: u64) -> bool
 fn hunt(setup: &SentSetup, pulse: u64) -> Position
     requires { pulse ≤ 10 ^ 15 }
     ensures valid { IsPosition setup.now result }
-    ensures reads { (place : ℕ) (pulses : List Pulse) →
-        reports_past setup.now 0 Hunting (record { place = place; length = pulse } ∷ pulses) ≡ reads_on setup.now result pulses }
+    ensures leads { (place : ℕ) → Led (found setup.now) (AgreesPosition setup.now result) Hunting (record { place = place; length = pulse } ∷ []) [] }
 {
     if may_calibrate(setup, pulse) {
         Position::Candidate { calibration: pulse }
@@ -92,7 +92,7 @@ fn check(setup: &SentSetup, values: FrameValues, place: u64) -> SentStep
 fn after_frame(setup: &SentSetup, calibration: u64) -> Position
     requires { IsKeptPulse setup.now calibration }
     ensures valid { IsPosition setup.now result }
-    ensures reads { (pulses : List Pulse) → reads_on setup.now result pulses ≡ reports_past setup.now 0 (due_after setup.now calibration) pulses }
+    ensures agrees { AgreesPosition setup.now result (due_after setup.now calibration) [] }
 {
     if setup.pause() {
         Position::Pause { calibration }
@@ -112,8 +112,9 @@ fn read_value(
     requires in_range { pulse ≤ 10 ^ 15 }
     requires valid { IsPosition setup.now (Position.Frame calibration values) }
     ensures valid { IsPosition setup.now result.0 }
-    ensures reads { (pulses : List Pulse) →
-        reads_on setup.now (Position.Frame calibration values) (record { place = place; length = pulse } ∷ pulses) ≡ steps_of result.1 ++ reads_on setup.now result.0 pulses }
+    ensures leads { (due : Standing) (kept : List Pulse) →
+        IsInFrame setup.now calibration values due kept (record { place = place; length = pulse } ∷ [])
+        → Led (found setup.now) (AgreesPosition setup.now result.0) due (kept ++ record { place = place; length = pulse } ∷ []) (steps_of result.1) }
 {
     let whole = usize::from(setup.nibbles()) + 2;
     let Some(value) = nibble_of(pulse, calibration) else {
@@ -138,14 +139,42 @@ fn read_value(
     (next, step)
 }
 
+/// Keeps the value that a pulse carries, in place, where the reader is in a frame that isn't whole with it.
+/// Answers whether it is; if not, nothing changes.
+#[inline(always)]
+pub fn keeps_value(setup: &SentSetup, position: &mut Position, pulse: u64) -> bool
+    requires in_range { pulse ≤ 10 ^ 15 }
+    requires valid { IsPosition setup.now position.old }
+    ensures valid { IsPosition setup.now position.new }
+    ensures leads { IsTrue result → (place : ℕ) →
+        Leads (found setup.now) (AgreesPosition setup.now position.old) (AgreesPosition setup.now position.new) (record { place = place; length = pulse } ∷ []) [] }
+    ensures left { result ≡ false → position.new ≡ position.old }
+{
+    let Position::Frame {
+        calibration,
+        values,
+    } = position
+    else {
+        return false;
+    };
+    let Some(value) = nibble_of(pulse, *calibration) else {
+        return false;
+    };
+    if values.len() > usize::from(setup.nibbles()) {
+        return false;
+    }
+    values.push(value);
+    true
+}
+
 /// The pulse after a frame, or after its pause: a calibration pulse is due, and so many ns was the one
 /// before.
 fn read_calibration(setup: &SentSetup, earlier: u64, pulse: u64, place: u64) -> (Position, SentStep)
     requires in_range { pulse ≤ 10 ^ 15 }
     requires valid { IsPosition setup.now (Position.Calibration earlier) }
     ensures valid { IsPosition setup.now result.0 }
-    ensures reads { (pulses : List Pulse) →
-        reads_on setup.now (Position.Calibration earlier) (record { place = place; length = pulse } ∷ pulses) ≡ steps_of result.1 ++ reads_on setup.now result.0 pulses }
+    ensures leads { Leads (found setup.now) (AgreesPosition setup.now (Position.Calibration earlier)) (AgreesPosition setup.now result.0)
+        (record { place = place; length = pulse } ∷ []) (steps_of result.1) }
 {
     if !may_calibrate(setup, pulse) {
         let rule = Rule::NoCalibration;
@@ -170,8 +199,8 @@ fn read_pause(setup: &SentSetup, calibration: u64, pulse: u64, place: u64) -> (P
     requires in_range { pulse ≤ 10 ^ 15 }
     requires valid { IsPosition setup.now (Position.Pause calibration) }
     ensures valid { IsPosition setup.now result.0 }
-    ensures reads { (pulses : List Pulse) →
-        reads_on setup.now (Position.Pause calibration) (record { place = place; length = pulse } ∷ pulses) ≡ steps_of result.1 ++ reads_on setup.now result.0 pulses }
+    ensures leads { Leads (found setup.now) (AgreesPosition setup.now (Position.Pause calibration)) (AgreesPosition setup.now result.0)
+        (record { place = place; length = pulse } ∷ []) (steps_of result.1) }
 {
     if pause_fits(pulse, calibration) {
         return (Position::Calibration { calibration }, SentStep::Nothing);
@@ -186,8 +215,8 @@ fn read_start(setup: &SentSetup, calibration: u64, pulse: u64, place: u64) -> (P
     requires in_range { pulse ≤ 10 ^ 15 }
     requires valid { IsPosition setup.now (Position.Candidate calibration) }
     ensures valid { IsPosition setup.now result.0 }
-    ensures reads { (pulses : List Pulse) →
-        reads_on setup.now (Position.Candidate calibration) (record { place = place; length = pulse } ∷ pulses) ≡ steps_of result.1 ++ reads_on setup.now result.0 pulses }
+    ensures leads { Leads (found setup.now) (AgreesPosition setup.now (Position.Candidate calibration)) (AgreesPosition setup.now result.0)
+        (record { place = place; length = pulse } ∷ []) (steps_of result.1) }
 {
     if may_calibrate(setup, pulse) {
         let later = Position::Candidate { calibration: pulse };
@@ -206,8 +235,8 @@ pub fn after_pulse(
     requires in_range { pulse ≤ 10 ^ 15 }
     requires valid { IsPosition setup.now position }
     ensures valid { IsPosition setup.now result.0 }
-    ensures reads { (pulses : List Pulse) →
-        reads_on setup.now position (record { place = place; length = pulse } ∷ pulses) ≡ steps_of result.1 ++ reads_on setup.now result.0 pulses }
+    ensures leads { Leads (found setup.now) (AgreesPosition setup.now position) (AgreesPosition setup.now result.0)
+        (record { place = place; length = pulse } ∷ []) (steps_of result.1) }
 {
     match position {
         Position::Hunting => (hunt(setup, pulse), SentStep::Nothing),

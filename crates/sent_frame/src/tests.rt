@@ -85,6 +85,40 @@ fn a_frame_is_good_where_its_crc_is_that_of_the_setup(rt: HostRuntime) -> Result
     Ok(())
 }
 
+/// Of a whole frame, the opening and the falls at which the reader stands elsewhere than before are left to
+/// `push`: the first fall, the two that end the calibration pulse and the status, and the last.
+#[test]
+fn an_edge_that_tells_nothing_is_passed(rt: HostRuntime) -> Result<(), Fail> {
+    let mut reader = SentReader::new(setup(&rt, false, CrcForm::New));
+    let mut left = Vec::new(rt.alloc());
+    let mut edge = Edge {
+        line: 0,
+        time: 0,
+        level: true,
+    };
+    let mut number: u64 = 0;
+    assert!(rt; !reader.passes(edge));
+    reader.push(number, edge);
+    for fall in ZEROS {
+        for rise in [0, 15_000] {
+            number = number.saturating_add(1);
+            edge.time = u64::from(fall) + rise;
+            edge.level = !edge.level;
+            if !reader.passes(edge) {
+                left.push((number, reader.push(number, edge)))?;
+            }
+        }
+    }
+    let expected = [
+        (1, SentStep::Nothing),
+        (3, SentStep::Nothing),
+        (5, SentStep::Nothing),
+        (19, good(&rt, 19, 0, 0)),
+    ];
+    assert_eq!(rt; left.as_slice(), expected.as_slice());
+    Ok(())
+}
+
 #[test]
 fn values_are_read_through_the_greatest_jitter(rt: HostRuntime) -> Result<(), Fail> {
     let falls = [

@@ -55,6 +55,17 @@ impl FrameValues {
         }
     }
 
+    /// Adds one more value, in place.
+    #[inline(always)]
+    pub fn push(&mut self, value: u8)
+        requires room { length self.old < 8 }
+        requires nibble { value < 16 }
+        ensures { self.new ≡ self.old ++ value ∷ [] }
+    {
+        self.cells[self.count] = value;
+        self.count += 1;
+    }
+
     /// How many values there are, 0 to 8.
     pub fn len(&self) -> usize
         ensures { result ≡ length self.now }

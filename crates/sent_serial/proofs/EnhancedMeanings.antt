@@ -1,25 +1,28 @@
 -- Each step of the enhanced messages stands for something in the statuses, the last of which ends it.
 --     enhanced-grows      the steps by which they grow with one status more
-use Rattle.std.proofs.Common.{◌≡◌, ◌⊎◌, ℕ, ◌+◌, ◌<◌, ◌≤◌, List, [], ◌∷◌, ◌++◌, Bool, true, false, cond, nat_eq, take, length, length-append, refl, sym, ap, ◌∙◌, append-nil, inl, inr, arith}
+use Rattle.std.proofs.Common.{◌≡◌, ℕ, ◌+◌, ◌<◌, ◌≤◌, List, [], ◌∷◌, ◌++◌, Bool, true, false, cond, nat_eq, take, length, length-append, refl, sym, ap, ◌∙◌, append-nil, inl, inr, arith}
 use Rattle.std.specs.List.{All}
 use Rattle.std.specs.Prelude.{slice_index}
 use Rattle.std.proofs.Math.ListN.{get_or-append}
 use Rattle.std.proofs.Math.Seq.{get_or-append_seam, take-length}
 use Rattle.std.proofs.lemmas.Bool.{cases_Bool, cases_lt, eqb-false, eqb-true}
 use Rattle.std.proofs.lemmas.List.Elements.{All-cons, All-nil, All-same}
+use Rattle.line_base.specs.Readings.{ended, read_past, told}
+use Rattle.line_base.specs.Readings.Found.{Waiting}
+use Rattle.line_base.proofs.Readings.{read-nil}
+use Rattle.line_base.proofs.ReportMeanings.{BringsAll, BringsOne, GrowsBy, brings-all, brings-none, reads-grow}
 use Rattle.line_base.specs.declared.rule.Rule.TheVariants.{Zero13, Zero18, SerialCheck}
 use Rattle.link_math.specs.Division.{number_of}
 use Rattle.link_math.specs.Checks.{crc6_of}
 use Rattle.sent_serial.specs.declared.step.SerialStep.{SerialStep}
 use Rattle.sent_serial.specs.declared.step.SerialStep.TheVariants.{Enhanced, Bad}
 use Rattle.sent_serial.specs.Statuses.{start_bit, start_bits, value_bits, set_before}
-use Rattle.sent_serial.specs.Readings.Found.{Waiting, Ended}
 use Rattle.sent_serial.specs.Enhanced.{begun, begun_at, checked_bits, enhanced_content, enhanced_found, enhanced_message, enhanced_reading}
 use Rattle.sent_serial.specs.Meanings.{BeginsEnhanced, EndsInEighteen, EnhancedMeans}
-use Rattle.sent_serial.proofs.EnhancedSteps.{at-begun, at-run, at-seven, at-skipped, begun-13, begun-18, begun-early, begun-late, begun-whole, reads-broken, reads-ended, reads-longer, reads-none, reads-skipped, reads-waiting}
+use Rattle.sent_serial.proofs.EnhancedSteps.{at-begun, at-run, at-seven, at-skipped, begun-13, begun-18, begun-early, begun-late, begun-whole, finds-first, reads-ended, reads-skipped, reads-waiting}
 use Rattle.sent_serial.proofs.FrameRanges.{clear_next, one_frame, set_front}
-use Rattle.sent_serial.proofs.Growth.{GrowsBy, steps-grow}
-use Rattle.sent_serial.proofs.Prefixes.{enhanced-stays}
+use Rattle.sent_serial.proofs.EnhancedLeads.{broken}
+use Rattle.sent_serial.proofs.Prefixes.{enhanced-keeps, enhanced-none}
 use Rattle.sent_serial.proofs.StartBits.{all_set-later, no_set, set-append, set-stays, set_before-le, set_here, set_none}
 
 -- ---- what waits
@@ -34,47 +37,6 @@ record IsWithin (kept : List ℕ) : Type 0 where
   pub some : 7 ≤ length kept
   pub few : length kept ≤ 17
   pub clear_13 : 12 < length kept → start_bit (slice_index kept 12) ≡ false
-
-within-where : (kept : List ℕ) → set_before kept ≡ 6 → 6 < length kept → begun kept ≡ Waiting → IsWithin kept
-within-where kept begins long waits =
-    elim (cases_lt 12 (length kept)) [
-      | inr short ↦ record { begins = begins; some = long; few = omega arith; clear_13 = λ longer. absurd (omega arith) }
-      | inl longer ↦
-          elim (cases_Bool (start_bit (slice_index kept 12))) [
-            | inl set ↦ let ended = begun-13 kept longer set in absurd (cc)
-            | inr clear ↦
-                elim (cases_lt 17 (length kept)) [
-                  | inr few ↦ record { begins = begins; some = long; few = few; clear_13 = λ _. clear }
-                  | inl whole ↦
-                      elim (cases_Bool (start_bit (slice_index kept 17))) [
-                        | inl set ↦ let ended = begun-18 kept whole clear set in absurd (cc)
-                        | inr last ↦ let ended = begun-whole kept whole clear last in absurd (cc)
-                      ]
-                ]
-          ]
-    ]
-
-waits-where : (kept : List ℕ) → begun_at kept ≡ Waiting → IsRun kept ⊎ IsWithin kept
-waits-where kept waits =
-    elim (cases_lt (set_before kept) (length kept)) [
-      | inr all ↦
-          elim (cases_lt 6 (length kept)) [
-            | inl many ↦ let skipped = at-seven kept (omega arith) in absurd (cc)
-            | inr few ↦ inl (record { all = omega (arith, set_before-le kept); few = few })
-          ]
-      | inl fewer ↦
-          elim (cases_lt (set_before kept) 6) [
-            | inl few ↦ let skipped = at-skipped kept few fewer in absurd (cc)
-            | inr enough ↦
-                elim (cases_lt 6 (set_before kept)) [
-                  | inl many ↦ let skipped = at-seven kept many in absurd (cc)
-                  | inr six ↦
-                      let begins : set_before kept ≡ 6 = omega arith in
-                      let long : 6 < length kept = omega arith in
-                      inr (within-where kept begins long (sym (at-begun kept begins long) ∙ waits))
-                ]
-          ]
-    ]
 
 -- ---- what the frames at the end mean
 one : (statuses : List ℕ) (step : SerialStep) → EnhancedMeans statuses step → All (EnhancedMeans statuses) (step ∷ [])
@@ -98,29 +60,31 @@ content-means : (statuses frames : List ℕ) → EndsInEighteen statuses frames 
 unfolding enhanced_content
 content-means statuses frames message right = content-told statuses frames (nat_eq (number_of (start_bits 8 1 frames)) 1) _ _ _ _ message right refl
 
-told : (statuses frames : List ℕ) (right : Bool) → EndsInEighteen statuses frames → nat_eq (number_of (value_bits 1 6 frames)) (crc6_of (checked_bits frames)) ≡ right
+checked-means : (statuses frames : List ℕ) (right : Bool) → EndsInEighteen statuses frames → nat_eq (number_of (value_bits 1 6 frames)) (crc6_of (checked_bits frames)) ≡ right
     → All (EnhancedMeans statuses) (cond right (enhanced_content frames) (Bad SerialCheck) ∷ [])
-told statuses frames true message is = one statuses (enhanced_content frames) (content-means statuses frames message (eqb-true (number_of (value_bits 1 6 frames)) (crc6_of (checked_bits frames)) is))
-told statuses frames false message is =
+checked-means statuses frames true message is = one statuses (enhanced_content frames) (content-means statuses frames message (eqb-true (number_of (value_bits 1 6 frames)) (crc6_of (checked_bits frames)) is))
+checked-means statuses frames false message is =
     one statuses (Bad SerialCheck) (record { frames = frames; message = message; wrong = eqb-false (number_of (value_bits 1 6 frames)) (crc6_of (checked_bits frames)) is })
 
 message-means : (statuses frames : List ℕ) → EndsInEighteen statuses frames → All (EnhancedMeans statuses) (enhanced_message frames ∷ [])
 unfolding enhanced_message
-message-means statuses frames message = told statuses frames (nat_eq (number_of (value_bits 1 6 frames)) (crc6_of (checked_bits frames))) message refl
+message-means statuses frames message = checked-means statuses frames (nat_eq (number_of (value_bits 1 6 frames)) (crc6_of (checked_bits frames))) message refl
 
 -- ---- one status more in a run
 one-none : (status : ℕ) → enhanced_reading (status ∷ []) ≡ []
 one-none status =
     elim (cases_Bool (start_bit status)) [
       | inl set ↦ reads-waiting (status ∷ []) (at-run (status ∷ []) (omega (arith, set_here status [] set, no_set)) (omega arith))
-      | inr clear ↦ reads-skipped status [] (at-skipped (status ∷ []) (omega (arith, set_none status [] clear)) (omega (arith, set_none status [] clear))) ∙ reads-none
+      | inr clear ↦ reads-skipped status [] (at-skipped (status ∷ []) (omega (arith, set_none status [] clear)) (omega (arith, set_none status [] clear))) ∙ enhanced-none
     ]
 
 seventh-none : (run : List ℕ) → set_before run ≡ length run → length run ≡ 7 → enhanced_reading run ≡ []
 seventh-none [] all seven = absurd (omega arith)
-seventh-none (first ∷ run) all seven =
-    ap enhanced_reading (sym (append-nil (first ∷ run))) ∙ reads-longer first run [] all (omega arith) ∙ ap enhanced_reading (append-nil run)
-    ∙ reads-waiting run (at-run run (all_set-later first run all) (omega arith))
+seventh-none (first ∷ run) all seven = reads-skipped first run (at-seven (first ∷ run) (omega arith)) ∙ reads-waiting run (at-run run (all_set-later first run all) (omega arith))
+
+broken-none : (run : List ℕ) (status : ℕ) → set_before run ≡ length run → length run < 6 → start_bit status ≡ false → enhanced_reading (run ++ status ∷ []) ≡ []
+unfolding enhanced_reading
+broken-none run status all fewer clear = ap (read_past enhanced_found 0 tt) (sym (append-nil (run ++ status ∷ []))) ∙ (broken run status all fewer clear).reads [] ∙ read-nil enhanced_found tt
 
 run-none : (kept : List ℕ) (status : ℕ) → IsRun kept → enhanced_reading (kept ++ status ∷ []) ≡ []
 run-none kept status run =
@@ -136,7 +100,7 @@ run-none kept status run =
           ]
       | inr clear ↦
           elim (cases_lt (length kept) 6) [
-            | inl fewer ↦ reads-broken kept status [] run.all fewer clear ∙ reads-none
+            | inl fewer ↦ broken-none kept status run.all fewer clear
             | inr six ↦
                 reads-waiting whole
                 (at-begun whole (omega (arith, set_none status [] clear, run.few)) (omega (arith, run.few)) ∙ begun-early whole (omega (arith, run.few)))
@@ -212,8 +176,8 @@ whole-means statuses kept status more seventeen none =
     All-same (EnhancedMeans statuses) (enhanced_reading frames) (enhanced_message frames ∷ [])
     (ap enhanced_reading (sym same)
     ∙ reads-ended frames [] (enhanced_message frames) 17 (omega arith)
-    (ap begun_at same ∙ at-begun frames more.begins (omega arith) ∙ begun-whole frames (omega arith) clear last ∙ ap (λ l. Ended (enhanced_message l) 17) all)
-    ∙ ap (λ steps. enhanced_message frames ∷ steps) reads-none)
+    (ap begun_at same ∙ at-begun frames more.begins (omega arith) ∙ begun-whole frames (omega arith) clear last ∙ ap (λ l. ended (enhanced_message l) 17) all)
+    ∙ ap (λ steps. enhanced_message frames ∷ steps) enhanced-none)
     (message-means statuses frames (record {
       last = record { before = more.before; stands = more.stands; as_many = eighteen };
       begins = begins-with frames more.begins (omega arith);
@@ -256,14 +220,75 @@ more-mean statuses kept status more =
           ]
     ]
 
-brings : (statuses before : List ℕ) (first : ℕ) (later : List ℕ) (status : ℕ) → statuses ≡ before ++ first ∷ (later ++ status ∷ []) → IsRun (first ∷ later) ⊎ IsWithin (first ∷ later)
-    → All (EnhancedMeans statuses) (enhanced_reading (first ∷ (later ++ status ∷ [])))
-brings statuses before first later status are (inl run) = none-mean statuses (enhanced_reading (first ∷ (later ++ status ∷ []))) (run-none (first ∷ later) status run)
-brings statuses before first later status are (inr within) = more-mean statuses (first ∷ later) status (is-more statuses before (first ∷ later) status are within)
+-- what one status more makes of a run, or of a message that isn't whole
+run-brings : (statuses : List ℕ) (first : ℕ) (later : List ℕ) (status : ℕ) → IsRun (first ∷ later) → BringsOne enhanced_found (EnhancedMeans statuses) tt first later status
+unfolding enhanced_reading
+run-brings statuses first later status run =
+    brings-all enhanced_found (EnhancedMeans statuses) tt first later status [] (finds-first first later ∙ at-run (first ∷ later) run.all run.few)
+    (none-mean statuses (enhanced_reading (first ∷ (later ++ status ∷ []))) (run-none (first ∷ later) status run))
+
+within-brings : (statuses before : List ℕ) (first : ℕ) (later : List ℕ) (status : ℕ) → statuses ≡ before ++ first ∷ (later ++ status ∷ []) → IsWithin (first ∷ later) → begun (first ∷ later) ≡ Waiting []
+    → BringsOne enhanced_found (EnhancedMeans statuses) tt first later status
+unfolding enhanced_reading
+within-brings statuses before first later status are within waits =
+    brings-all enhanced_found (EnhancedMeans statuses) tt first later status [] (finds-first first later ∙ at-begun (first ∷ later) within.begins (omega (arith, within.some)) ∙ waits)
+    (more-mean statuses (first ∷ later) status (is-more statuses before (first ∷ later) status are within))
+
+-- where a message has ended, or none begins, nothing was unfinished
+none-brings : (statuses : List ℕ) (first : ℕ) (later : List ℕ) (status : ℕ) (steps : List SerialStep) (used : ℕ) → begun_at (first ∷ later) ≡ told steps used tt → BringsOne enhanced_found (EnhancedMeans statuses) tt first later status
+none-brings statuses first later status steps used ends = brings-none enhanced_found (EnhancedMeans statuses) tt first later status steps used tt (finds-first first later ∙ ends)
+
+begun-brings : (statuses before : List ℕ) (first : ℕ) (later : List ℕ) (status : ℕ) → statuses ≡ before ++ first ∷ (later ++ status ∷ []) → set_before (first ∷ later) ≡ 6 → 6 < length (first ∷ later)
+    → BringsOne enhanced_found (EnhancedMeans statuses) tt first later status
+begun-brings statuses before first later status are begins long =
+    let kept = first ∷ later in
+    let here = at-begun kept begins long in
+    elim (cases_lt 12 (length kept)) [
+      | inr short ↦
+          within-brings statuses before first later status are (record { begins = begins; some = long; few = omega arith; clear_13 = λ longer. absurd (omega arith) }) (begun-early kept short)
+      | inl longer ↦
+          elim (cases_Bool (start_bit (slice_index kept 12))) [
+            | inl set ↦ none-brings statuses first later status (Bad Zero13 ∷ []) 11 (here ∙ begun-13 kept longer set)
+            | inr clear ↦
+                elim (cases_lt 17 (length kept)) [
+                  | inr few ↦ within-brings statuses before first later status are (record { begins = begins; some = long; few = few; clear_13 = λ _. clear }) (begun-late kept longer clear few)
+                  | inl whole ↦
+                      elim (cases_Bool (start_bit (slice_index kept 17))) [
+                        | inl set ↦ none-brings statuses first later status (Bad Zero18 ∷ []) 16 (here ∙ begun-18 kept whole clear set)
+                        | inr last ↦ none-brings statuses first later status (enhanced_message (take 18 kept) ∷ []) 17 (here ∙ begun-whole kept whole clear last)
+                      ]
+                ]
+          ]
+    ]
+
+one-more : (statuses before : List ℕ) (first : ℕ) (later : List ℕ) (status : ℕ) → statuses ≡ before ++ first ∷ (later ++ status ∷ []) → BringsOne enhanced_found (EnhancedMeans statuses) tt first later status
+one-more statuses before first later status are =
+    let kept = first ∷ later in
+    elim (cases_lt (set_before kept) (length kept)) [
+      | inr all ↦
+          elim (cases_lt 6 (length kept)) [
+            | inl many ↦ none-brings statuses first later status [] 0 (at-seven kept (omega arith))
+            | inr few ↦ run-brings statuses first later status (record { all = omega (arith, set_before-le kept); few = few })
+          ]
+      | inl fewer ↦
+          elim (cases_lt (set_before kept) 6) [
+            | inl few ↦ none-brings statuses first later status [] 0 (at-skipped kept few fewer)
+            | inr enough ↦
+                elim (cases_lt 6 (set_before kept)) [
+                  | inl many ↦ none-brings statuses first later status [] 0 (at-seven kept many)
+                  | inr six ↦ begun-brings statuses before first later status are (omega arith) (omega arith)
+                ]
+          ]
+    ]
+
+enhanced-brings : BringsAll enhanced_found EnhancedMeans
+unfolding enhanced_reading
+enhanced-brings = record {
+  alone = λ statuses before due status are. none-mean statuses (enhanced_reading (status ∷ [])) (one-none status);
+  one_more = λ statuses before due first later status are. one-more statuses before first later status are;
+}
 
 -- the steps of enhanced messages grow with one status more by some that stand for something there
 pub enhanced-grows : (before : List ℕ) (status : ℕ) → GrowsBy (EnhancedMeans (before ++ status ∷ [])) (enhanced_reading before) (enhanced_reading (before ++ status ∷ []))
-unfolding enhanced_reading enhanced_found
-enhanced-grows before status =
-    steps-grow enhanced_found EnhancedMeans enhanced-stays one-none (λ statuses front first later next are waits. brings statuses front first later next are (waits-where (first ∷ later) waits))
-    0 (before ++ status ∷ []) [] before status refl
+unfolding enhanced_reading
+enhanced-grows before status = reads-grow enhanced_found tt EnhancedMeans enhanced-keeps enhanced-brings before status

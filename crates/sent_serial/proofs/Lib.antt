@@ -1,4 +1,3 @@
-pub mod Passing
 pub mod Prefixes
 pub mod StartBits
 pub mod KeptBits
@@ -10,7 +9,6 @@ pub mod SentMessages
 pub mod ShortSteps
 pub mod ShortLeads
 pub mod ShortMessages
-pub mod Growth
 pub mod FrameRanges
 pub mod ShortMeanings
 pub mod EnhancedMeanings

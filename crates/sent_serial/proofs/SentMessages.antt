@@ -13,13 +13,14 @@ use Rattle.link_math.proofs.BitFields.{number_of-bits_of}
 use Rattle.link_math.proofs.BitLists.{bits_of-mod, length-bits_of}
 use Rattle.sent_serial.specs.declared.step.SerialStep.TheVariants.{Short, Enhanced}
 use Rattle.sent_serial.specs.Statuses.{clear_before, merged, set_before, start_bit, value_bit}
-use Rattle.sent_serial.specs.Readings.Found.{Ended}
+use Rattle.line_base.specs.Readings.{ended}
 use Rattle.sent_serial.specs.Short.{short_message, short_reading}
 use Rattle.sent_serial.specs.Enhanced.{begun_at, enhanced_content, enhanced_message, enhanced_reading}
 use Rattle.sent_serial.specs.Messages.{HasBits, IsMessageOf}
 use Rattle.sent_serial.proofs.EnhancedMessages.{content-is, message-good}
-use Rattle.sent_serial.proofs.EnhancedSteps.{at-begun, begun-whole, reads-ended, reads-none}
+use Rattle.sent_serial.proofs.EnhancedSteps.{at-begun, begun-whole, reads-ended}
 use Rattle.sent_serial.proofs.KeptBits.{length-map}
+use Rattle.sent_serial.proofs.Prefixes.{enhanced-none}
 use Rattle.sent_serial.proofs.ShortMessages.{message-good as short-good}
 use Rattle.sent_serial.proofs.ShortSteps.{reads-whole}
 use Rattle.sent_serial.proofs.StartBits.{clear_here, no_clear, set_here, set_none}
@@ -124,12 +125,12 @@ sent_reads statuses starts bits are =
     let clear_13 : StartAt statuses 12 false = bit_at start_bit statuses 18 starts bits 12 5 refl ∙ is_clear (starts / 32 % 2) (omega (arith, are.are, are.small, are.zero_13)) in
     let clear_18 : StartAt statuses 17 false = bit_at start_bit statuses 18 starts bits 17 0 refl ∙ is_clear (starts / 1 % 2) (omega (arith, are.are, are.zero_18)) in
     let whole : take 18 statuses ≡ statuses = ap (λ n. take n statuses) (sym long) ∙ take-length statuses in
-    let ends : begun_at statuses ≡ Ended (enhanced_message statuses) 17 =
+    let ends : begun_at statuses ≡ ended (enhanced_message statuses) 17 =
     at-begun statuses (six_set statuses starts bits are long) (omega arith)
-    ∙ begun-whole statuses (omega arith) clear_13 clear_18 ∙ ap (λ all. Ended (enhanced_message all) 17) whole in
+    ∙ begun-whole statuses (omega arith) clear_13 clear_18 ∙ ap (λ all. ended (enhanced_message all) 17) whole in
     ap enhanced_reading (sym (append-nil statuses))
     ∙ reads-ended statuses [] (enhanced_message statuses) 17 (omega arith) (ap begun_at (append-nil statuses) ∙ ends)
-    ∙ ap (λ steps. enhanced_message statuses ∷ steps) reads-none
+    ∙ ap (λ steps. enhanced_message statuses ∷ steps) enhanced-none
 
 pub enhanced-sent : (statuses : List ℕ) (check values free : ℕ) → free < 2048 → free / 32 % 2 ≡ 0 → free % 2 ≡ 0 → values < 4096 → check < 64
     → check ≡ crc6_of (merged (bits_of 12 values) (bits_of 12 (258048 + free))) → map value_bit statuses ≡ bits_of 18 (4096 * check + values) → map start_bit statuses ≡ bits_of 18 (258048 + free)

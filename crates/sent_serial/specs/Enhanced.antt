@@ -6,8 +6,8 @@ use Rattle.link_math.specs.Checks.{crc6_of}
 use Rattle.sent_serial.specs.declared.step.SerialStep.{SerialStep}
 use Rattle.sent_serial.specs.declared.step.SerialStep.TheVariants as step
 use Rattle.sent_serial.specs.Statuses.{start_bit, value_bit, frames_from, start_bits, value_bits, set_before}
-use Rattle.sent_serial.specs.Readings.{Found, steps_past}
-use Rattle.sent_serial.specs.Readings.Found.{Skipped, Waiting, Ended}
+use Rattle.line_base.specs.Readings.{Found, skipped, ended, read_past}
+use Rattle.line_base.specs.Readings.Found.{Waiting}
 
 -- the bits that the CRC of a message runs over: the value bit and then the start bit of each frame from 7 to 18
 abbrev pub checked_bits : List ℕ → List Bool
@@ -26,24 +26,24 @@ enhanced_message statuses =
     else step.Bad SerialCheck
 
 -- what stands where a message begins: Zero13 or Zero18 at frame 13 or 18 where its start bit is set, with which reading goes on, else the message of eighteen frames
-unfoldable pub begun : List ℕ → Found
+unfoldable pub begun : List ℕ → Found SerialStep (Unit {0})
 begun statuses =
-    if nat_le (length statuses) 12 then Waiting
-    else (if start_bit (slice_index statuses 12) then Ended (step.Bad Zero13) 11
-    else (if nat_le (length statuses) 17 then Waiting
-    else (if start_bit (slice_index statuses 17) then Ended (step.Bad Zero18) 16
-    else Ended (enhanced_message (take 18 statuses)) 17)))
+    if nat_le (length statuses) 12 then Waiting []
+    else (if start_bit (slice_index statuses 12) then ended (step.Bad Zero13) 11
+    else (if nat_le (length statuses) 17 then Waiting []
+    else (if start_bit (slice_index statuses 17) then ended (step.Bad Zero18) 16
+    else ended (enhanced_message (take 18 statuses)) 17)))
 
 -- what stands at the front of these statuses: a message begins where the start bits of exactly six are set and then one is clear
-abbrev pub begun_at : List ℕ → Found
+abbrev pub begun_at : List ℕ → Found SerialStep (Unit {0})
 begun_at statuses =
-    if nat_lt 6 (length statuses) then (if nat_eq (set_before statuses) 6 then begun statuses else Skipped)
-    else (if nat_eq (set_before statuses) (length statuses) then Waiting else Skipped)
+    if nat_lt 6 (length statuses) then (if nat_eq (set_before statuses) 6 then begun statuses else skipped)
+    else (if nat_eq (set_before statuses) (length statuses) then Waiting [] else skipped)
 
 -- what stands at this status
-unfoldable pub enhanced_found : ℕ → List ℕ → Found
-enhanced_found status later = begun_at (status ∷ later)
+unfoldable pub enhanced_found : Unit {0} → ℕ → List ℕ → Found SerialStep (Unit {0})
+enhanced_found due status later = begun_at (status ∷ later)
 
 -- the enhanced messages and violated rules of the statuses of good frames between two breaks
 unfoldable pub enhanced_reading : List ℕ → List SerialStep
-enhanced_reading statuses = steps_past enhanced_found 0 statuses
+enhanced_reading statuses = read_past enhanced_found 0 tt statuses

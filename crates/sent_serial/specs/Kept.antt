@@ -1,18 +1,11 @@
 -- What readers of serial messages have kept of the statuses that they have seen; this project's own.
-use Rattle.std.specs.Prelude.{◌≡◌, ℕ, suc, ◌^◌, ◌<◌, ◌≤◌, true, false, List, [], ◌∷◌, ◌++◌, length, map, slice_index}
+use Rattle.std.specs.Prelude.{◌≡◌, ℕ, suc, ◌^◌, ◌<◌, ◌≤◌, true, false, List, [], ◌∷◌, length, map, slice_index}
 use Rattle.link_math.specs.Division.{number_of}
-use Rattle.sent_serial.specs.declared.step.SerialStep.{SerialStep}
 use Rattle.sent_serial.specs.declared.short.ShortState.{ShortState}
 use Rattle.sent_serial.specs.declared.short.ShortState.TheVariants.{Outside, Within}
 use Rattle.sent_serial.specs.declared.enhanced.EnhancedState.{EnhancedState}
 use Rattle.sent_serial.specs.declared.enhanced.EnhancedState.TheVariants as enhanced
 use Rattle.sent_serial.specs.Statuses.{start_bit, value_bit, clear_before, set_before}
-
--- the next status leads from what is kept to these steps, and what is kept then agrees
-pub record Leads (reading : List ℕ → List SerialStep) (agrees : List ℕ → Type 0) (kept : List ℕ) (status : ℕ) (steps : List SerialStep) : Type 0 where
-  pub rest : List ℕ
-  pub agreed : agrees rest
-  pub each : (more : List ℕ) → reading (kept ++ status ∷ more) ≡ steps ++ reading (rest ++ more)
 
 -- these statuses are the first so many of a short message, and these are their value bits
 pub record IsShortFront (taken bits : ℕ) (kept : List ℕ) : Type 0 where
@@ -25,9 +18,9 @@ pub record IsShortFront (taken bits : ℕ) (kept : List ℕ) : Type 0 where
   pub values : number_of (map value_bit (first ∷ later)) ≡ bits
 
 -- a reader of short messages in this state has kept these statuses
-abbrev pub AgreesShort : ShortState → List ℕ → Type 0
-AgreesShort Outside kept = kept ≡ []
-AgreesShort (Within taken bits) kept = IsShortFront taken bits kept
+abbrev pub AgreesShort : ShortState → Unit {0} → List ℕ → Type 0
+AgreesShort Outside due kept = kept ≡ []
+AgreesShort (Within taken bits) due kept = IsShortFront taken bits kept
 
 -- 1 to 15 frames are there, and no more value bits than these
 pub record IsShortCount (taken bits : ℕ) : Type 0 where
@@ -55,9 +48,9 @@ pub record IsEnhancedFront (taken values starts : ℕ) (kept : List ℕ) : Type 
   pub start_bits : number_of (map start_bit kept) ≡ starts
 
 -- a reader of enhanced messages in this state has kept these statuses
-abbrev pub AgreesEnhanced : EnhancedState → List ℕ → Type 0
-AgreesEnhanced (enhanced.Searching run bits) kept = IsRun run bits kept
-AgreesEnhanced (enhanced.Within taken values starts) kept = IsEnhancedFront taken values starts kept
+abbrev pub AgreesEnhanced : EnhancedState → Unit {0} → List ℕ → Type 0
+AgreesEnhanced (enhanced.Searching run bits) due kept = IsRun run bits kept
+AgreesEnhanced (enhanced.Within taken values starts) due kept = IsEnhancedFront taken values starts kept
 
 -- up to 6 frames are there, and no more value bits than these
 pub record IsRunCount (run bits : ℕ) : Type 0 where

@@ -1,5 +1,5 @@
 pub mod Statuses
-pub mod Readings
+pub mod Steps
 pub mod Short
 pub mod Enhanced
 pub mod Kept

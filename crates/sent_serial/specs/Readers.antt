@@ -1,20 +1,16 @@
 -- Which statuses a reader of serial messages stands for; this project's own.
-use Rattle.std.specs.Prelude.{ℕ, List, ◌++◌}
-use Rattle.line_base.specs.Readers.{GoesOn}
+use Rattle.std.specs.Prelude.{ℕ, List}
+use Rattle.line_base.specs.Standing.{StandsFor}
 use Rattle.sent_serial.specs.declared.short.ShortReader.{ShortReader}
 use Rattle.sent_serial.specs.declared.enhanced.EnhancedReader.{EnhancedReader}
-use Rattle.sent_serial.specs.Short.{short_reading}
-use Rattle.sent_serial.specs.Enhanced.{enhanced_reading}
+use Rattle.sent_serial.specs.Short.{short_found}
+use Rattle.sent_serial.specs.Enhanced.{enhanced_found}
 use Rattle.sent_serial.specs.Kept.{AgreesShort, AgreesEnhanced}
 
 -- the reader stands for these statuses: whatever comes next, the steps are those of these statuses and then those that the statuses which it has kept lead to
-pub record StandsForShort (reader : ShortReader) (seen : List ℕ) : Type 0 where
-  pub kept : List ℕ
-  pub agrees : AgreesShort reader kept
-  pub goes_on : GoesOn short_reading seen (λ more. short_reading (kept ++ more))
+abbrev pub StandsForShort : ShortReader → List ℕ → Type 0
+StandsForShort reader seen = StandsFor short_found tt (AgreesShort reader) seen
 
 -- the reader stands for these statuses: whatever comes next, the steps are those of these statuses and then those that the statuses which it has kept lead to
-pub record StandsForEnhanced (reader : EnhancedReader) (seen : List ℕ) : Type 0 where
-  pub kept : List ℕ
-  pub agrees : AgreesEnhanced reader kept
-  pub goes_on : GoesOn enhanced_reading seen (λ more. enhanced_reading (kept ++ more))
+abbrev pub StandsForEnhanced : EnhancedReader → List ℕ → Type 0
+StandsForEnhanced reader seen = StandsFor enhanced_found tt (AgreesEnhanced reader) seen

@@ -6,8 +6,8 @@ use Rattle.link_math.specs.Checks.{crc4_of}
 use Rattle.sent_serial.specs.declared.step.SerialStep.{SerialStep}
 use Rattle.sent_serial.specs.declared.step.SerialStep.TheVariants.{Short, Bad}
 use Rattle.sent_serial.specs.Statuses.{start_bit, value_bit, clear_before}
-use Rattle.sent_serial.specs.Readings.{Found, steps_past}
-use Rattle.sent_serial.specs.Readings.Found.{Skipped, Waiting, Ended}
+use Rattle.line_base.specs.Readings.{Found, skipped, ended, read_past}
+use Rattle.line_base.specs.Readings.Found.{Waiting}
 
 -- the number of four of these bits, from the one at this place on
 abbrev pub nibble_at : ℕ → List Bool → ℕ
@@ -21,13 +21,13 @@ short_message bits =
     else Bad SerialCheck
 
 -- what stands at this status: a message where its start bit is set and those of the next fifteen are clear; Restart at the next start bit where that comes earlier, with which reading goes on
-unfoldable pub short_found : ℕ → List ℕ → Found
-short_found status later =
-    if not (start_bit status) then Skipped
-    else (if nat_le 15 (clear_before later) then Ended (short_message (map value_bit (status ∷ take 15 later))) 15
-    else (if nat_eq (clear_before later) (length later) then Waiting
-    else Ended (Bad Restart) (clear_before later)))
+unfoldable pub short_found : Unit {0} → ℕ → List ℕ → Found SerialStep (Unit {0})
+short_found due status later =
+    if not (start_bit status) then skipped
+    else (if nat_le 15 (clear_before later) then ended (short_message (map value_bit (status ∷ take 15 later))) 15
+    else (if nat_eq (clear_before later) (length later) then Waiting []
+    else ended (Bad Restart) (clear_before later)))
 
 -- the short messages and violated rules of the statuses of good frames between two breaks
 unfoldable pub short_reading : List ℕ → List SerialStep
-short_reading statuses = steps_past short_found 0 statuses
+short_reading statuses = read_past short_found 0 tt statuses

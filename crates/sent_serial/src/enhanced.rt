@@ -1,11 +1,12 @@
 //! Enhanced serial messages (SAE J2716): an ID and a value of 20 bits together and a CRC of 6, in eighteen
 //! frames.
 ghost use Rattle.std.specs.Prelude.{◌≡◌, ◌^◌, ◌<◌, ◌++◌, [], ◌∷◌, List, ℕ, true, false, nat_eq, ◌/◌, ◌%◌};
+ghost use Rattle.line_base.specs.Standing.{Leads};
 ghost use Rattle.link_math.specs.Division.{bits_of};
 ghost use Rattle.sent_serial.specs.Statuses.{merged, start_bit};
-ghost use Rattle.sent_serial.specs.Readings.{steps_of};
-ghost use Rattle.sent_serial.specs.Enhanced.{enhanced_content, enhanced_message, enhanced_reading};
-ghost use Rattle.sent_serial.specs.Kept.{AgreesEnhanced, IsEnhancedState, Leads};
+ghost use Rattle.sent_serial.specs.Steps.{steps_of};
+ghost use Rattle.sent_serial.specs.Enhanced.{enhanced_content, enhanced_found, enhanced_message, enhanced_reading};
+ghost use Rattle.sent_serial.specs.Kept.{AgreesEnhanced, IsEnhancedState};
 ghost use Rattle.sent_serial.specs.Messages.{HasBits};
 
 use crate::status::{has_bit, has_start, has_value};
@@ -124,7 +125,7 @@ fn message_of(values: u32, starts: u32) -> SerialStep
 /// Where a search stands that begins at a frame of this status, whose start bit is set.
 fn begun(status: u8) -> EnhancedState
     ensures valid { IsEnhancedState result }
-    ensures agrees { start_bit status ≡ true → AgreesEnhanced result (status ∷ []) }
+    ensures agrees { start_bit status ≡ true → AgreesEnhanced result tt (status ∷ []) }
 {
     EnhancedState::Searching {
         run: 1,
@@ -137,7 +138,7 @@ fn begun(status: u8) -> EnhancedState
 fn searched(run: u8, bits: u8, status: u8) -> EnhancedState
     requires valid { IsEnhancedState (EnhancedState.Searching run bits) }
     ensures valid { IsEnhancedState result }
-    ensures leads { (kept : List ℕ) → AgreesEnhanced (EnhancedState.Searching run bits) kept → Leads enhanced_reading (AgreesEnhanced result) kept status [] }
+    ensures leads { Leads enhanced_found (AgreesEnhanced (EnhancedState.Searching run bits)) (AgreesEnhanced result) (status ∷ []) [] }
 {
     let longer = 2 * bits + u8::from(has_value(status));
     if has_start(status) {
@@ -167,7 +168,7 @@ fn searched(run: u8, bits: u8, status: u8) -> EnhancedState
 fn continued(taken: u8, values: u32, starts: u32, status: u8) -> (EnhancedState, SerialStep)
     requires valid { IsEnhancedState (EnhancedState.Within taken values starts) }
     ensures valid { IsEnhancedState result.0 }
-    ensures leads { (kept : List ℕ) → AgreesEnhanced (EnhancedState.Within taken values starts) kept → Leads enhanced_reading (AgreesEnhanced result.0) kept status (steps_of result.1) }
+    ensures leads { Leads enhanced_found (AgreesEnhanced (EnhancedState.Within taken values starts)) (AgreesEnhanced result.0) (status ∷ []) (steps_of result.1) }
 {
     let start = has_start(status);
     if start && taken == BEFORE_13 {
@@ -194,7 +195,7 @@ fn continued(taken: u8, values: u32, starts: u32, status: u8) -> (EnhancedState,
 fn next_state(state: EnhancedState, status: u8) -> (EnhancedState, SerialStep)
     requires valid { IsEnhancedState state }
     ensures valid { IsEnhancedState result.0 }
-    ensures leads { (kept : List ℕ) → AgreesEnhanced state kept → Leads enhanced_reading (AgreesEnhanced result.0) kept status (steps_of result.1) }
+    ensures leads { Leads enhanced_found (AgreesEnhanced state) (AgreesEnhanced result.0) (status ∷ []) (steps_of result.1) }
 {
     match state {
         EnhancedState::Searching { run, bits } => {

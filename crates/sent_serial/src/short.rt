@@ -1,11 +1,12 @@
 //! Short serial messages (SAE J2716): an ID of 4 bits, a value of 8 and a CRC of 4, in sixteen frames.
 ghost use Rattle.std.specs.Prelude.{◌≡◌, ◌/◌, ◌%◌, ◌<◌, ◌++◌, [], ◌∷◌, List, ℕ, false};
+ghost use Rattle.line_base.specs.Standing.{Leads};
 ghost use Rattle.link_math.specs.Checks.{crc4_of};
 ghost use Rattle.link_math.specs.Division.{bits_of};
 ghost use Rattle.sent_serial.specs.Statuses.{start_bit};
-ghost use Rattle.sent_serial.specs.Readings.{steps_of};
-ghost use Rattle.sent_serial.specs.Short.{short_message, short_reading};
-ghost use Rattle.sent_serial.specs.Kept.{AgreesShort, IsShortState, Leads};
+ghost use Rattle.sent_serial.specs.Steps.{steps_of};
+ghost use Rattle.sent_serial.specs.Short.{short_found, short_message, short_reading};
+ghost use Rattle.sent_serial.specs.Kept.{AgreesShort, IsShortState};
 
 use crate::status::{has_start, has_value};
 use crate::step::SerialStep;
@@ -78,7 +79,7 @@ fn continued(taken: u8, bits: u16, status: u8) -> (ShortState, SerialStep)
     requires valid { IsShortState (ShortState.Within taken bits) }
     requires clear { start_bit status ≡ false }
     ensures valid { IsShortState result.0 }
-    ensures leads { (kept : List ℕ) → AgreesShort (ShortState.Within taken bits) kept → Leads short_reading (AgreesShort result.0) kept status (steps_of result.1) }
+    ensures leads { Leads short_found (AgreesShort (ShortState.Within taken bits)) (AgreesShort result.0) (status ∷ []) (steps_of result.1) }
 {
     let bits = 2 * bits + u16::from(has_value(status));
     let taken = taken + 1;
@@ -93,7 +94,7 @@ fn continued(taken: u8, bits: u16, status: u8) -> (ShortState, SerialStep)
 fn next_state(state: ShortState, status: u8) -> (ShortState, SerialStep)
     requires valid { IsShortState state }
     ensures valid { IsShortState result.0 }
-    ensures leads { (kept : List ℕ) → AgreesShort state kept → Leads short_reading (AgreesShort result.0) kept status (steps_of result.1) }
+    ensures leads { Leads short_found (AgreesShort state) (AgreesShort result.0) (status ∷ []) (steps_of result.1) }
 {
     let begun = ShortState::Within {
         taken: 1,

@@ -1,7 +1,7 @@
 -- The edge is an opening, or the first of a burst.
 use Rattle.std.proofs.Common.{◌-◌}
+use Rattle.line_base.specs.Edges.{NumberedEdge}
 use Rattle.link_math.specs.Manchester.{halves_in}
-use Rattle.psi5_frame.specs.Edges.{NumberedEdge}
 use Rattle.psi5_frame.proofs.Leading.{leads-opened, leads-begun-skipping, leads-begun-open}
 use Rattle.psi5_frame.proofs.reader.begin.Goals as goal
 

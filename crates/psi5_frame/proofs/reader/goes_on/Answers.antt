@@ -1,8 +1,8 @@
 -- The edge goes on with a burst that isn't read, or with one that is.
 use Rattle.std.proofs.Common.{◌≡◌, ◌-◌, false, sym, ◌∙◌, ap, ap₂}
+use Rattle.line_base.specs.Edges.{NumberedEdge}
 use Rattle.link_math.specs.Manchester.{halves_in}
 use Rattle.psi5_frame.specs.Intervals.{is_quiet}
-use Rattle.psi5_frame.specs.Edges.{NumberedEdge}
 use Rattle.psi5_frame.proofs.Leading.{leads-skipped, leads-extended}
 use Rattle.psi5_frame.proofs.reader.goes_on.Goals as goal
 

@@ -4,14 +4,13 @@ use Rattle.sent_serial.proofs.ShortLeads.{lead-begun, lead-restart, lead-skipped
 use Rattle.sent_serial.proofs.short.next_state.Goals as goal
 
 pub returns-in-Outside-clause-leads : goal.returns-in-Outside-clause-leads
-returns-in-Outside-clause-leads c = λ kept agrees.
-    lead-begun kept c.args.status c.from.result c.has_value.result (rw c.in-Outside.is at agrees) (sym c.has_start-starts.ensures ∙ c.if-starts.true) c.from.ensures c.has_value.ensures
+returns-in-Outside-clause-leads c =
+    rw c.in-Outside.is (lead-begun c.args.status c.from.result c.has_value.result (sym c.has_start-starts.ensures ∙ c.if-starts.true) c.from.ensures c.has_value.ensures)
 
 pub returns-in-Outside-2-clause-leads : goal.returns-in-Outside-2-clause-leads
-returns-in-Outside-2-clause-leads c = λ kept agrees.
-    lead-skipped kept c.args.status (rw c.in-Outside.is at agrees) (sym c.has_start-starts.ensures ∙ c.if-starts.false)
+returns-in-Outside-2-clause-leads c = rw c.in-Outside.is (lead-skipped c.args.status (sym c.has_start-starts.ensures ∙ c.if-starts.false))
 
 pub returns-in-Within-clause-leads : goal.returns-in-Within-clause-leads
-returns-in-Within-clause-leads c = λ kept agrees.
+returns-in-Within-clause-leads c =
     let valid = rw c.in-Within.is at c.requires.valid in
-    lead-restart kept c.in-Within.taken c.in-Within.bits c.args.status c.from.result c.has_value.result (rw c.in-Within.is at agrees) valid.few (sym c.has_start-starts.ensures ∙ c.if-starts-2.true) c.from.ensures c.has_value.ensures
+    rw c.in-Within.is (lead-restart c.in-Within.taken c.in-Within.bits c.args.status c.from.result c.has_value.result valid.few (sym c.has_start-starts.ensures ∙ c.if-starts-2.true) c.from.ensures c.has_value.ensures)

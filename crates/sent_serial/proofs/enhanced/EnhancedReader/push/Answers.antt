@@ -1,5 +1,5 @@
 -- One status more.
-use Rattle.sent_serial.specs.Readings.{steps_of}
+use Rattle.sent_serial.specs.Steps.{steps_of}
 use Rattle.sent_serial.proofs.EnhancedLeads.{enhanced-grows, enhanced-pushed}
 use Rattle.sent_serial.proofs.enhanced.EnhancedReader.push.Goals as goal
 

@@ -1,5 +1,5 @@
 -- One status more.
-use Rattle.sent_serial.specs.Readings.{steps_of}
+use Rattle.sent_serial.specs.Steps.{steps_of}
 use Rattle.sent_serial.proofs.ShortLeads.{short-grows, short-pushed}
 use Rattle.sent_serial.proofs.short.ShortReader.push.Goals as goal
 
