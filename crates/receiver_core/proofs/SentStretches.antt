@@ -1,5 +1,5 @@
 -- A SENT channel that has taken one edge more stands for one edge more.
-use Rattle.std.proofs.Common.{◌≡◌, ℕ, List, [], ◌∷◌, ◌++◌, Option, refl, ap, sym, ◌∙◌}
+use Rattle.std.proofs.Common.{◌≡◌, ℕ, List, [], ◌∷◌, ◌++◌, Option, refl, ap, subst, sym, ◌∙◌}
 use Rattle.line_base.specs.Edges.{NumberedEdge}
 use Rattle.sent_frame.specs.declared.frame.SentStep.{SentStep}
 use Rattle.sent_frame.specs.Setup.{Settings}
@@ -9,6 +9,9 @@ use Rattle.sent_frame.specs.Positions.{steps_of}
 use Rattle.sent_fast.specs.declared.layout.Layout.{Layout}
 use Rattle.receiver_core.specs.declared.setup.Serial.{Serial}
 use Rattle.receiver_core.specs.declared.sent_channel.SentChannel.{SentChannel}
+use Rattle.sent_frame.specs.Readers.{StandsFor}
+use Rattle.sent_frame.specs.declared.reader.SentReader.{SentReader}
+use Rattle.receiver_core.specs.Serials.{SerialStandsFor}
 use Rattle.receiver_core.specs.SentReports.{step_reports, watch_past_step, statuses_past_step, last_counter, statuses_of, frames_with, sent_reports, frames_past}
 use Rattle.receiver_core.specs.SentStretches.{StandsForStretch}
 use Rattle.receiver_core.proofs.SentReports.{sent_reports-append, frames_past-append, sent_reports-one, frames_past-one, counter-step, statuses-step}
@@ -58,3 +61,15 @@ reports-more s layout serial channel seen e step stands more =
     ∙ ap (λ l. all ++ l) (sent_reports-one layout serial frames step
     ∙ ap (λ (b : Option ℕ). step_reports layout serial b (statuses_of frames) step) (sym stands.watches)
     ∙ ap (λ (l : Layout). step_reports l serial channel.watch (statuses_of frames) step) (sym stands.same_layout))
+
+-- a channel whose reader has passed an edge stands for it too
+pub passed : (s : Settings) (layout : Layout) (serial : Serial) (channel : SentChannel) (reader : SentReader) (seen : List NumberedEdge) (e : NumberedEdge)
+    → StandsForStretch s layout serial channel seen → sent_reading s (seen ++ e ∷ []) ≡ sent_reading s seen → StandsFor s reader (seen ++ e ∷ [])
+    → StandsForStretch s layout serial (record channel { reader = reader }) (seen ++ e ∷ [])
+passed s layout serial channel reader seen e before same stands = record {
+  fits = before.fits;
+  same_layout = before.same_layout;
+  reads = stands;
+  watches = before.watches ∙ ap (λ steps. last_counter layout (frames_past [] steps)) (sym same);
+  has_read = subst (λ (statuses : List ℕ). SerialStandsFor serial channel.serial statuses) (ap (λ steps. statuses_of (frames_past [] steps)) (sym same)) before.has_read;
+}

@@ -51,6 +51,7 @@ impl Link {
     }
 
     /// Takes the next edge, with its number in the channel, and adds its reports to none.
+    #[inline(always)]
     fn edge(&mut self, number: u64, edge: Edge, reports: &mut ArrayVec<Report, 8>)
         requires in_range { edge.time ≤ 10 ^ 15 }
         requires empty { reports.old.items ≡ [] }
@@ -140,6 +141,7 @@ impl Receiver {
     }
 
     /// The same, with the reports added to an empty list.
+    #[inline(always)]
     pub fn push_into(&mut self, item: Item, reports: &mut ArrayVec<Report, 8>)
         requires empty { reports.old.items ≡ [] }
         requires takeable { (setup : ChannelSetup) × (seen : List Item) × StandsFor setup self.old seen × IsTakeable (edges_counted seen) item }

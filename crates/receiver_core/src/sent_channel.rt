@@ -167,8 +167,27 @@ impl SentChannel {
     }
 
     /// Takes the next edge of the line, with its number in the channel, and adds the reports of what it
-    /// ends to none. Its time is at most 10^15 ns.
+    /// ends to none. Its time is at most 10^15 ns. An edge that ends nothing is left at once.
+    #[inline(always)]
     pub fn push(&mut self, number: u64, edge: Edge, reports: &mut ArrayVec<Report, 8>)
+        requires in_range { edge.time ≤ 10 ^ 15 }
+        requires empty { reports.old.items ≡ [] }
+        requires stands { (setup : Settings) × (layout : Layout) × (serial : Serial) × (seen : List NumberedEdge) × StandsForStretch setup layout serial self.old seen }
+        ensures stands { (setup : Settings) (layout : Layout) (serial : Serial) (seen : List NumberedEdge) → StandsForStretch setup layout serial self.old seen
+            → StandsForStretch setup layout serial self.new (seen ++ record { number = number; edge = edge } ∷ []) }
+        ensures grows { (setup : Settings) (layout : Layout) (serial : Serial) (seen : List NumberedEdge) → StandsForStretch setup layout serial self.old seen
+            → sent_reports layout serial [] (sent_reading setup (seen ++ record { number = number; edge = edge } ∷ []))
+            ≡ sent_reports layout serial [] (sent_reading setup seen) ++ reports.new.items }
+    {
+        if self.reader.passes(edge) {
+            return;
+        }
+        self.read(number, edge, reports);
+    }
+
+    /// The same for an edge that may end a frame or violate a rule.
+    #[inline(never)]
+    fn read(&mut self, number: u64, edge: Edge, reports: &mut ArrayVec<Report, 8>)
         requires in_range { edge.time ≤ 10 ^ 15 }
         requires empty { reports.old.items ≡ [] }
         requires stands { (setup : Settings) × (layout : Layout) × (serial : Serial) × (seen : List NumberedEdge) × StandsForStretch setup layout serial self.old seen }
