@@ -15,7 +15,7 @@ import subprocess
 import sys
 from dataclasses import dataclass
 
-PROGRAM = pathlib.Path(__file__).parent.parent / "crates" / "pulselink" / "out" / "pulselink"
+PROGRAM = pathlib.Path(__file__).parent.parent / ".built" / "pulselink"
 
 
 @dataclass

@@ -4,17 +4,18 @@
 pub const HELP: &str = "\
 pulselink: decodes edge lists of automotive sensor links
 
-usage: pulselink decode SPEC.. < EDGES
-       pulselink check SPEC.. < EDGES
+usage: pulselink decode SPEC.. < FILE
+       pulselink check SPEC.. < FILE
        pulselink --help | -h
        pulselink --version | -V
 
+The input comes from standard input: < FILE, or a pipe.
 decode writes a line for each frame, value, serial message and violated rule,
 and then a total line for each channel; check writes the total lines alone.
 
-SPEC names a channel: a kind, a colon and pairs KEY=VALUE parted by commas.
+SPEC names a channel: a kind, a colon, and pairs KEY=VALUE with commas between.
 There are 1 to 16 SPECs; the first is channel 00. Channels may share a line.
-  sent:line=N   a SENT channel (SAE J2716); its keys, with what is usual:
+  sent:line=N   a SENT channel (SAE J2716); its keys, and their defaults:
     line      0 to 15                                  must be there
     tick      3000 to 90000, in ns                     3000
     jitter    1 to 9000, in ns, at most tick/10        tick/10
@@ -26,7 +27,7 @@ There are 1 to 16 SPECs; the first is channel 00. Channels may share a line.
               and split16_8 (6 nibbles)
     serial    none, short, enhanced                    none
 
-EDGES is an edge list on standard input, at most 512 bytes a line:
+FILE is an edge list, with at most 512 bytes a line:
   narrow   TIME,LINE,LEVEL          a time in ns, a line 0 to 15, a level 0 or 1
   wide     Time [s],NAME,NAME..     a header, then a time in seconds with up to
            TIME,LEVEL,LEVEL..       9 decimals and a level for each line
@@ -44,20 +45,31 @@ statuses
   6   there is no memory                 out of memory
 
 faults of a word
-  Missing   it has to be there            Value     the value is out of its range
-  Command   no command                    Absent    a key that must be there isn't
-  Kind      no kind of channel            Setup     the values don't go together
-  Key       no such key, or it is there   Channels  the seventeenth SPEC
-            before, or has no =           NotBuilt  not built yet
+  Missing       a command, or a SPEC after it, has to be there
+  Command       the first word is no command, or a word isn't UTF-8
+  Kind          no colon, or no kind of channel before it
+  Key           no such key, or it was given before, or it has no =
+  Value         the value is out of its range
+  Absent        a key that must be there isn't
+  Setup         the values don't go together
+  Channels      the seventeenth SPEC
+  Extra         a word after the last one; no command of today reports it
+  NotBuilt      not built yet
 faults of a line of the input
-  Field     wrong number of fields        TimeBack      earlier than the row before
-  Number    a time or line is no number   TooLarge      above 10^15 ns
-  Line      a line above 15               LineTooLong   more than 512 bytes
-  Level     neither 0 nor 1               InputTooLong  2^36 bytes or more
-  Version   line 1 is no version line
+  Field         a wrong number of fields, or a bad header
+  Number        the time or the line is no number in its form
+  Line          a line above 15
+  Level         neither 0 nor 1
+  TimeBack      earlier than the row before
+  TooLarge      a time above 10^15 ns
+  LineTooLong   more than 512 bytes
+  InputTooLong  2^36 bytes or more
+  Order         a line at a wrong place; no command of today reports it
+  Version       line 1 is no version line
+docs/GLOSSARY.md says what to do about each, and about each violated rule.
 
-examples
+examples, in the folder of the repository
   pulselink decode sent:line=0 < examples/three_frames.txt
   pulselink decode sent:line=0,serial=short < examples/short_message.txt
-  pulselink check sent:line=0 sent:line=1 < examples/three_frames_wide.csv
+  pulselink check sent:line=0,layout=two12 < examples/saleae.csv
 ";
