@@ -65,7 +65,7 @@ def crc6(bits):
     return remainder([0, 1, 0, 1, 0, 1] + bits + [0] * 6, [1, 0, 1, 1, 0, 0, 1])
 
 
-# The vectors of docs/FORMATS.md's messages and of the CRCs.
+# The vectors of docs/SENT.md's messages and of the CRCs.
 assert crc4([1, 2, 3, 4, 5, 6]) == 2 and crc4([1, 2, 3, 4, 5, 6], "legacy") == 0xD
 assert crc6([0] * 24) == 0b100110 and crc6(bits_of(0b000111010101101000100100, 24)) == 0b010011
 
