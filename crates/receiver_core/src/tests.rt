@@ -76,7 +76,11 @@ fn counted(number: u64, item: Item) -> Option<u64>
 {
     match item {
         Item::Edge(edge) if edge.time <= 1_000_000_000_000_000 => {
-            if number < MOST_EDGES { Some(number + 1) } else { None }
+            if number < MOST_EDGES {
+                Some(number + 1)
+            } else {
+                None
+            }
         }
         Item::Edge(_) => None,
         Item::Gap { count, .. } => number.checked_add(count).filter(|next| *next <= MOST_EDGES),

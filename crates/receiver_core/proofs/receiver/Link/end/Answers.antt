@@ -1,5 +1,5 @@
 -- Nothing is added.
-use Rattle.std.proofs.Common.{[], ◌∷◌, ◌++◌, ap, sym, ◌∙◌, append-nil}
+use Rattle.std.proofs.Common.{[], ◌++◌, ap, sym, ◌∙◌, append-nil}
 use Rattle.receiver_core.specs.OpenStretches.{resumed}
 use Rattle.receiver_core.proofs.Links.{end-adds}
 use Rattle.receiver_core.proofs.receiver.Link.end.Goals as goal
