@@ -15,9 +15,8 @@ use Rattle.receiver_core.specs.OpenStretches.{open_stretch}
 -- the link has this setup and stands for these edges; where there are none, it has ended
 abbrev pub LinkStandsFor : ChannelSetup → Link → Option (List NumberedEdge) → Type 0
 LinkStandsFor (Sent line setup layout serial) (link.Sent channel) (Some stretch) = StandsForStretch setup layout serial channel stretch
-LinkStandsFor (Sent line setup layout serial) (link.Sent channel) None = ⊥
-LinkStandsFor (Sent line setup layout serial) link.Ended (Some stretch) = ⊥
-LinkStandsFor (Sent line setup layout serial) link.Ended None = Unit {0}
+LinkStandsFor setup link.Ended None = Unit {0}
+LinkStandsFor _ _ _ = ⊥
 
 -- the receiver has this setup and stands for these items: its link stands for the edges since the last gap, and the number of its next edge is the number of edges, with those that were lost
 pub record StandsFor (setup : ChannelSetup) (receiver : Receiver) (items : List Item) : Type 0 where

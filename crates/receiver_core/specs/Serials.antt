@@ -22,11 +22,6 @@ serial_steps serial before status = drop (length (serial_reading serial before))
 -- the reader reads these messages, and stands for these statuses
 abbrev pub SerialStandsFor : Serial → SerialReader → List ℕ → Type 0
 SerialStandsFor serial.Absent reader.Absent seen = Unit {0}
-SerialStandsFor serial.Absent (reader.Short short) seen = ⊥
-SerialStandsFor serial.Absent (reader.Enhanced enhanced) seen = ⊥
-SerialStandsFor serial.Short reader.Absent seen = ⊥
 SerialStandsFor serial.Short (reader.Short short) seen = StandsForShort short seen
-SerialStandsFor serial.Short (reader.Enhanced enhanced) seen = ⊥
-SerialStandsFor serial.Enhanced reader.Absent seen = ⊥
-SerialStandsFor serial.Enhanced (reader.Short short) seen = ⊥
 SerialStandsFor serial.Enhanced (reader.Enhanced enhanced) seen = StandsForEnhanced enhanced seen
+SerialStandsFor _ _ seen = ⊥
