@@ -1,5 +1,5 @@
 //! One channel: its edges in, the reports of each out, and all of them counted.
-ghost use Rattle.std.specs.Prelude.{◌≡◌, ◌+◌, ◌*◌, ◌^◌, ◌<◌, ◌≤◌, ◌++◌, [], ◌∷◌, List, None, length};
+ghost use Rattle.std.specs.Prelude.{◌≡◌, ◌+◌, ◌*◌, ◌^◌, ◌<◌, ◌≤◌, ◌++◌, [], ◌∷◌, List, None, length, true};
 ghost use Rattle.receiver_core.specs.declared.report.Report.{Report};
 ghost use Rattle.receiver_core.specs.Tallies.{tally_of, TellNoGap};
 ghost use Rattle.edge_command.specs.Channels.{counted_in};
@@ -38,7 +38,7 @@ fn count_each(reports: &[Report], tally: &mut Tally)
 impl Channel {
     ghost use Rattle.line_base.specs.declared.edge.Edge.{Edge};
     ghost use Rattle.receiver_core.specs.Setups.{setup_fault_of};
-    ghost use Rattle.edge_command.specs.Channels.{final_on, reports_added, reports_of_end};
+    ghost use Rattle.edge_command.specs.Channels.{final_on, is_on, reports_added, reports_of_end};
     ghost use Rattle.edge_command.specs.Followed.{Follows};
 
     /// A channel of this setup, which has no fault, that has taken no edge.
@@ -55,7 +55,7 @@ impl Channel {
     }
 
     /// Takes the next edge of the list, of any line, and adds the reports that it gives to none.
-    #[inline]
+    #[inline(always)]
     pub fn take_edge(&mut self, edge: Edge, reports: &mut ArrayVec<Report, 8>)
         requires in_range { edge.time ≤ 10 ^ 15 }
         requires empty { reports.old.items ≡ [] }
@@ -64,9 +64,23 @@ impl Channel {
         ensures follows { (edges : List Edge) → Follows self.old edges → Follows self.new (edges ++ edge ∷ []) }
         ensures given { (edges : List Edge) → Follows self.old edges → reports.new.items ≡ reports_added self.old.setup edges edge }
     {
-        if edge.line != self.setup.line() {
-            return;
+        if edge.line == self.setup.line() {
+            self.take_own_edge(edge, reports);
         }
+    }
+
+    /// Takes the next edge of the list, which is on the channel's line, and adds the reports that it gives to
+    /// none.
+    #[inline(never)]
+    fn take_own_edge(&mut self, edge: Edge, reports: &mut ArrayVec<Report, 8>)
+        requires own { is_on self.old.setup edge ≡ true }
+        requires in_range { edge.time ≤ 10 ^ 15 }
+        requires empty { reports.old.items ≡ [] }
+        requires follows { (edges : List Edge) × Follows self.old edges × (length edges < 2 ^ 60) }
+        ensures setup { self.new.setup ≡ self.old.setup }
+        ensures follows { (edges : List Edge) → Follows self.old edges → Follows self.new (edges ++ edge ∷ []) }
+        ensures given { (edges : List Edge) → Follows self.old edges → reports.new.items ≡ reports_added self.old.setup edges edge }
+    {
         self.receiver.push_into(Item::Edge(edge), reports);
         if !reports.is_empty() {
             count_each(reports.as_slice(), &mut self.tally);
