@@ -3,8 +3,7 @@ use Rattle.std.proofs.Common.{◌≡◌, ℕ, ◌+◌, ◌<◌, ◌≤◌, ◌==
 use Rattle.std.specs.Option.{option_map}
 use Rattle.std.specs.List.{list_all}
 use Rattle.std.proofs.lemmas.Bool.{le-leb, lt-leb, eq-eqb, ne_eqb}
-use Rattle.edge_trace.specs.Digits.{capped}
-use Rattle.edge_trace.specs.Fields.{◌>>=◌, after_front, before_end, number_in}
+use Rattle.line_base.specs.Texts.{capped, ◌>>=◌, after_front, before_end, number_in}
 use Rattle.edge_trace.specs.EdgeLists.{in_unit_range, unit_before_ns, unit_in, columns_in, is_name_byte}
 
 pub no_unit : (rest : List ℕ) → None ≡ after_front (codes "unit=") rest → None ≡ unit_in rest

@@ -4,8 +4,10 @@ use Rattle.std.specs.Option.{option_map, ok_or}
 use Rattle.std.proofs.lemmas.Bool.{false≢true, le-leb, lt-leb, eq-eqb, ne_eqb}
 use Rattle.line_base.specs.declared.faults.LineFault.{LineFault}
 use Rattle.line_base.specs.declared.faults.LineFault.TheVariants.{Field, Number, Level, TimeBack, TooLarge}
-use Rattle.edge_trace.specs.Fields.{fields, without_blanks, cut_at, number_in, seconds_in, level_in}
-use Rattle.edge_trace.specs.Rows.{◌>>=◌, check, Form, Narrow, Units, Wide, unit_of, Stamp, Absolute, Step, steps_in, stamp_in, time_field, line_field, Row, narrow_row}
+use Rattle.line_base.specs.Texts.{cut_at, number_in}
+use Rattle.edge_trace.specs.Fields.{fields, without_blanks, seconds_in, level_in}
+use Rattle.line_base.specs.Steps.{◌>>=◌, check}
+use Rattle.edge_trace.specs.Rows.{Form, Narrow, Units, Wide, unit_of, Stamp, Absolute, Step, steps_in, stamp_in, time_field, line_field, Row, narrow_row}
 use Rattle.edge_trace.specs.Readings.{form_of, stamp_time, time_behind, seen_by, IsStamped}
 use Rattle.edge_trace.specs.declared.form.Form as code
 use Rattle.edge_trace.specs.declared.form.Form.TheVariants as variant

@@ -1,5 +1,5 @@
 pub mod Cutting
-pub mod Numbers
+pub mod Seconds
 pub mod LineEnds
 pub mod KeptEdges
 pub mod ToldLevels

@@ -11,9 +11,11 @@ use Rattle.line_base.specs.declared.faults.LineFault.{LineFault}
 use Rattle.line_base.specs.declared.faults.LineFault.TheVariants.{Field, Level, TimeBack, Version, LineTooLong, InputTooLong}
 use Rattle.line_base.specs.Orderly.{levels_with}
 use Rattle.edge_trace.specs.Lines.{without_cr, ended_lines, open_line}
-use Rattle.edge_trace.specs.Fields as field
-use Rattle.edge_trace.specs.Fields.{fields, after_front, level_in, levels_in}
-use Rattle.edge_trace.specs.Rows.{◌>>=◌, check, Form, Narrow, Units, Wide, Stamp, time_field, time_of, units_of, Row, said_from, wide_row, row_in}
+use Rattle.line_base.specs.Texts as texts
+use Rattle.line_base.specs.Texts.{after_front}
+use Rattle.edge_trace.specs.Fields.{fields, level_in, levels_in}
+use Rattle.line_base.specs.Steps.{◌>>=◌, check}
+use Rattle.edge_trace.specs.Rows.{Form, Narrow, Units, Wide, Stamp, time_field, time_of, units_of, Row, said_from, wide_row, row_in}
 use Rattle.edge_trace.specs.EdgeLists.{level_before, edges_among, is_new, option_else, without_row, Standing, AtStart, Formless, InRows, Read, is_skipped, is_name_byte, unit_in, columns_in, narrow_form, header_read, forming_read, version_read, row_read, content_read, line_read, Told, told_row, told_with, told_from}
 use Rattle.edge_trace.specs.Limits.{input_limit, long_line, last_line, told_within, told_past, told_of, whole_told_of, fault_in, rows_of, edges_of, whole_rows_of, whole_edges_of}
 use Rattle.edge_trace.specs.Ordered.{AreOrdered}
@@ -21,7 +23,7 @@ use Rattle.edge_trace.proofs.Cutting.{lines_joined}
 use Rattle.edge_trace.proofs.Ordering.{bound, checked, found, same_levels, one_said, all_said, levels_behind, behind_same, eqb_sym, filter_cons, RowSays, NarrowSays, WideSays, time_in_range, narrow_says}
 
 -- the levels of a wide row are as many as its fields
-level_step : (o : Option Bool) (rest : Option (List Bool)) (n : ℕ) (high : List Bool) → ((more : List Bool) → rest ≡ Some more → length more ≡ n) → field.◌>>=◌ o (λ level. field.◌>>=◌ rest (λ levels. Some (level ∷ levels))) ≡ Some high → length high ≡ suc n
+level_step : (o : Option Bool) (rest : Option (List Bool)) (n : ℕ) (high : List Bool) → ((more : List Bool) → rest ≡ Some more → length more ≡ n) → texts.◌>>=◌ o (λ level. texts.◌>>=◌ rest (λ levels. Some (level ∷ levels))) ≡ Some high → length high ≡ suc n
 level_step None rest n high each e = cc
 level_step (Some level) None n high each e = cc
 level_step (Some level) (Some more) n high each e =

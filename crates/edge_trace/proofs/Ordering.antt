@@ -6,8 +6,10 @@ use Rattle.line_base.specs.declared.edge.Edge.{Edge}
 use Rattle.line_base.specs.declared.faults.LineFault.{LineFault}
 use Rattle.line_base.specs.declared.faults.LineFault.TheVariants.{Number, Line, Level, TimeBack, TooLarge}
 use Rattle.line_base.specs.Orderly.{Alternates, levels_with}
-use Rattle.edge_trace.specs.Fields.{number_in, level_in}
-use Rattle.edge_trace.specs.Rows.{◌>>=◌, check, Form, Stamp, stamp_in, time_field, line_field, Row, said_from, narrow_row}
+use Rattle.line_base.specs.Texts.{number_in}
+use Rattle.edge_trace.specs.Fields.{level_in}
+use Rattle.line_base.specs.Steps.{◌>>=◌, check}
+use Rattle.edge_trace.specs.Rows.{Form, Stamp, stamp_in, time_field, line_field, Row, said_from, narrow_row}
 use Rattle.edge_trace.specs.EdgeLists.{is_new, level_before}
 use Rattle.edge_trace.specs.Ordered.{AreOrdered}
 use Rattle.edge_trace.proofs.Reading.{wide_level}

@@ -6,12 +6,14 @@ use Rattle.std.proofs.lemmas.List.{take_more, length-take-le}
 use Rattle.std.specs.List.{list_all}
 use Rattle.line_base.specs.declared.edge.Edge.{Edge}
 use Rattle.line_base.specs.declared.faults.LineFault.TheVariants.{TooLarge}
-use Rattle.edge_trace.specs.Fields.{fields, without_blanks, cut_at, is_digit, number_after, number_in, level_in}
-use Rattle.edge_trace.specs.Rows.{◌>>=◌, check, Narrow, line_field, narrow_row}
+use Rattle.line_base.specs.Texts.{cut_at, is_digit, number_after, number_in}
+use Rattle.edge_trace.specs.Fields.{fields, without_blanks, level_in}
+use Rattle.line_base.specs.Steps.{◌>>=◌, check}
+use Rattle.edge_trace.specs.Rows.{Narrow, line_field, narrow_row}
 use Rattle.edge_trace.specs.Readings.{stamp_time, time_behind, IsStamped}
 use Rattle.edge_trace.specs.PlainRows.{BeginsWithNumber, SpellsEdge}
-use Rattle.edge_trace.proofs.LineEnds.{CutSoFar, cut_none, cut_more, cut_found}
-use Rattle.edge_trace.proofs.Numbers.{number_after_append, digit_true}
+use Rattle.line_base.proofs.Cuts.{CutSoFar, cut_none, cut_more, cut_found}
+use Rattle.line_base.proofs.Numbers.{number_after_append, digit_true}
 use Rattle.edge_trace.proofs.Judging.{all_three, stamped, narrow_time}
 
 -- the bytes so far are digits, and this is their number

@@ -5,8 +5,10 @@ use Rattle.line_base.specs.declared.edge.Edge.{Edge}
 use Rattle.line_base.specs.declared.faults.LineFault.{LineFault}
 use Rattle.std.specs.Option.{ok_or}
 use Rattle.line_base.specs.declared.faults.LineFault.TheVariants.{Field}
-use Rattle.edge_trace.specs.Fields.{fields, after_front}
-use Rattle.edge_trace.specs.Rows.{◌>>=◌, Form, Narrow, Units, Wide, unit_of, Stamp, Absolute, Step, units_of, time_of, Row, row_in, narrow_row, wide_row, said_from}
+use Rattle.line_base.specs.Texts.{after_front}
+use Rattle.edge_trace.specs.Fields.{fields}
+use Rattle.line_base.specs.Steps.{◌>>=◌}
+use Rattle.edge_trace.specs.Rows.{Form, Narrow, Units, Wide, unit_of, Stamp, Absolute, Step, units_of, time_of, Row, row_in, narrow_row, wide_row, said_from}
 use Rattle.edge_trace.specs.EdgeLists.{is_new, level_before, edges_among, row_read, Standing, InRows, columns_in, header_read, narrow_form, forming_read, option_else, without_row, is_skipped, content_read}
 use Rattle.edge_trace.specs.Readings.{form_of, IsForm, stamp_time, IsStamped, HasLevels, HasRead, IsInRows, IsAt}
 use Rattle.edge_trace.specs.declared.form.Form as code

@@ -7,12 +7,14 @@ use Rattle.std.proofs.lemmas.Fmt.{decimal_nonempty, digits_decimal, digits_value
 use Rattle.std.proofs.lemmas.Str.Parse.{IsDigitsTest, FoldsDigits, IsNumeralModel, numerals_by_fold}
 use Rattle.line_base.specs.declared.edge.Edge.{Edge}
 use Rattle.line_base.specs.declared.faults.LineFault.TheVariants.{Number, Line, TooLarge}
-use Rattle.edge_trace.specs.Fields.{fields, without_blanks, is_digit, number_after, number_in, level_in}
-use Rattle.edge_trace.specs.Rows.{◌>>=◌, check, Narrow, time_field, line_field, narrow_row}
+use Rattle.line_base.specs.Texts.{is_digit, number_after, number_in}
+use Rattle.edge_trace.specs.Fields.{fields, without_blanks, level_in}
+use Rattle.line_base.specs.Steps.{◌>>=◌, check}
+use Rattle.edge_trace.specs.Rows.{Narrow, time_field, line_field, narrow_row}
 use Rattle.edge_trace.specs.Readings.{stamp_time, time_behind, seen_by, IsStamped}
 use Rattle.edge_trace.specs.Texts.{level_digit, narrow_text}
 use Rattle.edge_trace.proofs.Judging.{narrow_time, stamped}
-use Rattle.edge_trace.proofs.Numbers.{digit_true}
+use Rattle.line_base.proofs.Numbers.{digit_true}
 
 pub digit_bounds : (byte : ℕ) → is_digit byte ≡ true → (48 ≤ byte) × (byte ≤ 57)
 digit_bounds byte e =

@@ -9,8 +9,9 @@ use Rattle.std.proofs.lemmas.List.Splits.{length-slice_split}
 use Rattle.line_base.specs.declared.edge.Edge.{Edge}
 use Rattle.line_base.specs.declared.faults.LineFault.{LineFault}
 use Rattle.line_base.specs.declared.faults.LineFault.TheVariants.{Field, Level, TimeBack}
-use Rattle.edge_trace.specs.Fields as field
-use Rattle.edge_trace.specs.Fields.{fields, without_blanks, cut_at, level_in, levels_in}
+use Rattle.line_base.specs.Texts as texts
+use Rattle.line_base.specs.Texts.{cut_at}
+use Rattle.edge_trace.specs.Fields.{fields, without_blanks, level_in, levels_in}
 use Rattle.edge_trace.specs.Rows.{Wide, Stamp, time_field, Row, said_from, wide_row}
 use Rattle.edge_trace.specs.EdgeLists.{is_new}
 use Rattle.edge_trace.specs.Readings.{seen_by, IsStamped}
@@ -33,7 +34,7 @@ pub record LevelsSoFar (text : List ℕ) (levels : List Bool) (rest : Option (Li
   pub all : option_map (λ more. levels ++ more) (levels_in (fields_left rest)) ≡ levels_in (fields text)
   pub few : length levels + length (fields_left rest) ≤ 16
 
-unchanged : (o : Option (List Bool)) (level : Bool) → field.◌>>=◌ o (λ levels. Some (level ∷ levels)) ≡ option_map (λ more. level ∷ more) o
+unchanged : (o : Option (List Bool)) (level : Bool) → texts.◌>>=◌ o (λ levels. Some (level ∷ levels)) ≡ option_map (λ more. level ∷ more) o
 unchanged None level = refl
 unchanged (Some levels) level = refl
 
@@ -80,28 +81,6 @@ no_more = refl
 
 pub all_levels : (text : List ℕ) (levels : List Bool) → LevelsSoFar text levels None → Some levels ≡ levels_in (fields text)
 all_levels text levels so_far = ap (λ (ls : List Bool). Some ls) (sym (append-nil levels)) ∙ sym (ap (option_map (λ more. levels ++ more)) no_more) ∙ so_far.all
-
--- how much is left
-abbrev pub left_len : Option (List ℕ) → ℕ
-left_len None = 0
-left_len (Some rest) = suc (length rest)
-
-shorter_cons : (mark byte : ℕ) (bytes : List ℕ) (t : Bool) → left_len (cut_at mark bytes).1 < suc (length bytes) → left_len (cond {A = List ℕ × Option (List ℕ)} t ([], Some bytes) (byte ∷ (cut_at mark bytes).0, (cut_at mark bytes).1)).1 < suc (suc (length bytes))
-shorter_cons mark byte bytes true h = omega arith
-shorter_cons mark byte bytes false h = omega (arith, h)
-
-cut_shorter : (mark : ℕ) (text : List ℕ) → left_len (cut_at mark text).1 < suc (length text)
-unfolding cut_at
-cut_shorter mark [] = omega arith
-cut_shorter mark (byte ∷ bytes) = shorter_cons mark byte bytes (byte == mark) (cut_shorter mark bytes)
-
-pub less_left : (mark : ℕ) (text field : List ℕ) (others : Option (List ℕ)) → (field, others) ≡ cut_at mark text → left_len others < left_len (Some text)
-less_left mark text field others e =
-    let f : others ≡ (cut_at mark text).1 = ap (λ (c : List ℕ × Option (List ℕ)). c.1) e in
-    subst (λ (o : Option (List ℕ)). left_len o < suc (length text)) (sym f) (cut_shorter mark text)
-
-pub less_left_of : (mark : ℕ) (rest : Option (Bor (List ℕ))) (here : Bor (List ℕ)) (field : List ℕ) (others : Option (List ℕ)) → rest ≡ Some here → (field, others) ≡ cut_at mark here.now → left_len others < left_len (option_copied rest)
-less_left_of mark rest here field others e f = subst (λ (r : Option (Bor (List ℕ))). left_len others < left_len (option_copied r)) (sym e) (less_left mark here.now field others f)
 
 pub so_far_at : (text : List ℕ) (levels : List Bool) (rest after : Option (Bor (List ℕ))) → LevelsSoFar text levels (option_copied rest) → rest ≡ after → LevelsSoFar text levels (option_copied after)
 so_far_at text levels rest after so_far e = subst (λ (r : Option (Bor (List ℕ))). LevelsSoFar text levels (option_copied r)) e so_far

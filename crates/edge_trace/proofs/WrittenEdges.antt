@@ -9,7 +9,7 @@ use Rattle.std.proofs.lemmas.Slice.Eq.{bytes_eq-Decides}
 use Rattle.line_base.specs.declared.edge.Edge.{Edge}
 use Rattle.line_base.specs.declared.faults.LineFault.{LineFault}
 use Rattle.edge_trace.specs.Lines.{ended_lines, open_line, without_cr}
-use Rattle.edge_trace.specs.Fields.{is_digit, after_front}
+use Rattle.line_base.specs.Texts.{is_digit, after_front}
 use Rattle.edge_trace.specs.Rows.{Narrow}
 use Rattle.edge_trace.specs.EdgeLists.{AtStart, Formless, InRows, Read, is_skipped, option_else, version_read, header_read, without_row, forming_read, row_read, content_read, Told, told_with, told_from, standing_after}
 use Rattle.edge_trace.specs.Limits.{answers_of, whole_answers_of}

@@ -5,9 +5,10 @@ use Rattle.line_base.specs.declared.edge.Edge.{Edge}
 use Rattle.line_base.specs.declared.faults.LineFault.{LineFault}
 use Rattle.line_base.specs.declared.faults.LineFault.TheVariants.{Field, Version, LineTooLong}
 use Rattle.edge_trace.specs.Lines.{without_cr}
-use Rattle.edge_trace.specs.Fields as field
-use Rattle.edge_trace.specs.Fields.{after_front, before_end, number_in}
-use Rattle.edge_trace.specs.Rows.{◌>>=◌, Form, Narrow, Units, Wide, Stamp, row_in}
+use Rattle.line_base.specs.Texts as texts
+use Rattle.line_base.specs.Texts.{after_front, before_end, number_in}
+use Rattle.line_base.specs.Steps.{◌>>=◌}
+use Rattle.edge_trace.specs.Rows.{Form, Narrow, Units, Wide, Stamp, row_in}
 
 -- the line is empty or a comment
 abbrev pub is_skipped : List ℕ → Bool
@@ -20,11 +21,11 @@ in_unit_range unit = if nat_le 1 unit && nat_le unit 1000000 then Some unit else
 
 -- the unit that stands behind `unit=`: a number, and `ns`
 abbrev pub unit_before_ns : List ℕ → Option ℕ
-unit_before_ns text = field.◌>>=◌ (before_end (codes "ns") text) (λ digits. field.◌>>=◌ (number_in digits) in_unit_range)
+unit_before_ns text = texts.◌>>=◌ (before_end (codes "ns") text) (λ digits. texts.◌>>=◌ (number_in digits) in_unit_range)
 
 -- the unit in ns that stands behind `# version 2 `
 unfoldable pub unit_in : List ℕ → Option ℕ
-unit_in rest = field.◌>>=◌ (after_front (codes "unit=") rest) unit_before_ns
+unit_in rest = texts.◌>>=◌ (after_front (codes "unit=") rest) unit_before_ns
 
 -- the byte may stand in the name of a column: printable, and no double quote
 abbrev pub is_name_byte : ℕ → Bool

@@ -3,7 +3,6 @@ pub mod Fields
 pub mod Rows
 pub mod EdgeLists
 pub mod Limits
-pub mod Digits
 pub mod RowEdges
 pub mod PlainRows
 pub mod Texts

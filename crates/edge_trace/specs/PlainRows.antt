@@ -1,7 +1,8 @@
 -- Rows whose fields are digits alone; this project's own.
 use Rattle.std.specs.Prelude.{◌≡◌, ℕ, Some, List, [], ◌∷◌}
 use Rattle.line_base.specs.declared.edge.Edge.{Edge}
-use Rattle.edge_trace.specs.Fields.{fields, without_blanks, cut_at, number_in, level_in}
+use Rattle.line_base.specs.Texts.{cut_at, number_in}
+use Rattle.edge_trace.specs.Fields.{fields, without_blanks, level_in}
 
 -- a text begins with this number, without blanks, and a comma, behind which this stands
 pub record BeginsWithNumber (text : List ℕ) (number : ℕ) (rest : List ℕ) : Type 0 where

@@ -4,7 +4,8 @@ use Rattle.line_base.specs.declared.edge.Edge.{Edge}
 use Rattle.line_base.specs.declared.faults.LineFault.{LineFault}
 use Rattle.line_base.specs.declared.faults.LineFault.TheVariants.{Number, TooLarge}
 use Rattle.edge_trace.specs.Rows as row
-use Rattle.edge_trace.specs.Rows.{Stamp, Absolute, Step, ◌>>=◌, check}
+use Rattle.line_base.specs.Steps.{◌>>=◌, check}
+use Rattle.edge_trace.specs.Rows.{Stamp, Absolute, Step}
 use Rattle.edge_trace.specs.EdgeLists.{level_before, Standing, AtStart, Formless, InRows, Read}
 use Rattle.edge_trace.specs.declared.state.State.{State}
 use Rattle.edge_trace.specs.declared.state.State.TheVariants as state

@@ -1,20 +1,11 @@
 -- What a row says, and the first fault that it has; this project's own.
-use Rattle.std.specs.Prelude.{ℕ, ◌+◌, ◌*◌, ◌^◌, ◌==◌, nat_le, Bool, true, false, Option, None, Result, Ok, Err, ok_or, option_map, List, [], ◌∷◌, length, if◌then◌else◌}
+use Rattle.std.specs.Prelude.{ℕ, ◌+◌, ◌*◌, ◌^◌, ◌==◌, nat_le, Bool, Option, None, Result, Ok, Err, ok_or, option_map, List, [], ◌∷◌, length, if◌then◌else◌}
 use Rattle.line_base.specs.declared.edge.Edge.{Edge}
 use Rattle.line_base.specs.declared.faults.LineFault.{LineFault}
 use Rattle.line_base.specs.declared.faults.LineFault.TheVariants.{Field, Number, Line, Level, TimeBack, TooLarge}
-use Rattle.edge_trace.specs.Fields.{fields, number_in, seconds_in, level_in, levels_in}
-
-infixl 10 ◌>>=◌
--- what a step on a good value gives, and the first fault where there is one
-abbrev pub ◌>>=◌ : {A B : Type 0} → Result A LineFault → (A → Result B LineFault) → Result B LineFault
-(Ok x) >>= next = next x
-(Err fault) >>= next = Err fault
-
--- the fault where the test fails
-abbrev pub check : Bool → LineFault → Result (Unit {0}) LineFault
-check true fault = Ok tt
-check false fault = Err fault
+use Rattle.line_base.specs.Texts.{number_in}
+use Rattle.edge_trace.specs.Fields.{fields, seconds_in, level_in, levels_in}
+use Rattle.line_base.specs.Steps.{◌>>=◌, check}
 
 -- the form of a list's rows: narrow in ns, narrow in units of so many ns with steps, or wide with so many columns of levels
 pub data Form : Type 0 where

@@ -3,8 +3,7 @@ ghost use Rattle.std.specs.Prelude.{◌≡◌, ◌≤◌, ◌==◌, count_by, If
 ghost use Rattle.std.specs.List.{list_all};
 ghost use Rattle.edge_trace.specs.EdgeLists.{is_skipped, unit_in, columns_in, is_name_byte};
 
-use crate::digits::number_of;
-use crate::texts::{before, behind};
+use line_base::text::{before, behind, number_of};
 
 /// The form of a list's rows.
 #[derive(Clone, Copy, Debug, PartialEq, Eq)]

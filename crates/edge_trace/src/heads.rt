@@ -8,8 +8,8 @@ use crate::levels::Levels;
 use crate::row::RowEdges;
 use crate::rows::read_row;
 use crate::state::State;
-use crate::texts::behind;
 use line_base::LineFault;
+use line_base::text::behind;
 
 /// Reads line 1 of version 2, of which this stands behind `# version 2 `.
 #[inline(never)]

@@ -1,5 +1,5 @@
 //! Edge lists: rows of text that say when a line of a logic analyser changed its level, read from single
-//! bytes. Beside them stands how any text is cut, and which number its digits write.
+//! bytes.
 //!
 //! The text forms, their limits and the order of the faults are this project's own. Times are in ns, at
 //! most 10^15, and lines are numbered 0 to 15.
@@ -26,7 +26,6 @@ mod tests;
 mod texts;
 mod wide;
 
-pub use digits::number_of;
 pub use edge_text::edge_line;
 pub use edges_left::EdgesLeft;
 pub use list_laws::{
@@ -35,4 +34,3 @@ pub use list_laws::{
 };
 pub use reader::{EdgeReader, INPUT_LIMIT};
 pub use row::{Row, RowEdges};
-pub use texts::cut;

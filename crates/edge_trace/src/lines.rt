@@ -9,8 +9,8 @@ use crate::levels::Levels;
 use crate::row::RowEdges;
 use crate::rows::{read_plain, read_row};
 use crate::state::State;
-use crate::texts::behind;
 use line_base::LineFault;
+use line_base::text::behind;
 
 /// Reads a line without its CR, and adds its edges. Nearly all lines are plain rows, so these are read at
 /// once.

@@ -6,11 +6,12 @@ ghost use Rattle.edge_trace.specs.Rows.{Stamp, unit_of, line_field, narrow_row};
 ghost use Rattle.edge_trace.specs.Rows as row;
 ghost use Rattle.edge_trace.specs.Readings.{form_of, IsForm, stamp_time, IsStamped};
 
-use crate::digits::{level_of, number_of};
+use crate::digits::level_of;
 use crate::form::Form;
 use crate::plain::plain_row;
 use crate::stamps::{MAX_TIME, time_in};
-use crate::texts::{cut, trimmed};
+use crate::texts::trimmed;
+use line_base::text::{cut, number_of};
 use line_base::{Edge, LineFault};
 
 /// The line number of a field, 0 to 15.

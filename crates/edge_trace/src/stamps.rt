@@ -1,13 +1,14 @@
 //! The time of a row, by its first field.
 ghost use Rattle.std.specs.Prelude.{◌≡◌, ℕ, ◌≤◌, ◌^◌, Option, IfOk, option_map};
-ghost use Rattle.edge_trace.specs.Digits.{capped};
+ghost use Rattle.line_base.specs.Texts.{capped};
 ghost use Rattle.edge_trace.specs.Rows.{unit_of, time_field};
 ghost use Rattle.edge_trace.specs.Rows as row;
 ghost use Rattle.edge_trace.specs.Readings.{form_of, IsForm, stamp_time, time_behind, seen_by};
 
-use crate::digits::{number_of, seconds_of};
+use crate::digits::seconds_of;
 use crate::form::Form;
 use line_base::LineFault;
+use line_base::text::number_of;
 
 /// The greatest time, in ns.
 pub(crate) const MAX_TIME: u64 = 1_000_000_000_000_000;

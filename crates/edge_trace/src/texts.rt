@@ -1,22 +1,9 @@
-//! Parts of a text: what stands before and behind a byte, without blanks, without a CR.
-ghost use Rattle.std.specs.Prelude.{◌≡◌, ◌≢◌, ℕ, ◌<◌, ◌≤◌, ◌⊎◌, length, slice_index, option_copied};
+//! Parts of a line: what stands before a byte, without blanks, without a CR.
+ghost use Rattle.std.specs.Prelude.{◌≡◌, ◌≢◌, ℕ, ◌<◌, ◌≤◌, ◌⊎◌, length, slice_index};
 ghost use Rattle.edge_trace.specs.Lines.{without_cr};
-ghost use Rattle.edge_trace.specs.Fields.{cut_at, without_blanks, after_front, before_end};
+ghost use Rattle.edge_trace.specs.Fields.{without_blanks};
 
 use memchr::memchr;
-
-/// The part of a text up to the first such byte, and the part behind it, if there is one.
-#[inline]
-pub fn cut(text: &[u8], mark: u8) -> (&[u8], Option<&[u8]>)
-    ensures { (result.0.now, option_copied result.1) ≡ cut_at mark text.now }
-{
-    for (i, byte) in text.iter().enumerate() {
-        if *byte == mark {
-            return (&text[..i], Some(&text[i + 1..]));
-        }
-    }
-    (text, None)
-}
 
 /// How many bytes stand before the first such byte at the front of a text, at most so many.
 #[inline]
@@ -57,18 +44,4 @@ pub(crate) fn content(line: &[u8]) -> &[u8]
         }
     }
     line
-}
-
-/// What stands behind these bytes, where the text begins with them.
-pub(crate) fn behind<'a>(text: &'a [u8], front: &[u8]) -> Option<&'a [u8]>
-    ensures { option_copied result ≡ after_front front.now text.now }
-{
-    text.strip_prefix(front)
-}
-
-/// What stands before these bytes, where the text ends with them.
-pub(crate) fn before<'a>(text: &'a [u8], end: &[u8]) -> Option<&'a [u8]>
-    ensures { option_copied result ≡ before_end end.now text.now }
-{
-    text.strip_suffix(end)
 }

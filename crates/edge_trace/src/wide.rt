@@ -7,9 +7,10 @@ ghost use Rattle.edge_trace.specs.Readings.{stamp_time, IsStamped};
 use crate::digits::level_of;
 use crate::form::{Form, commas};
 use crate::stamps::time_in;
-use crate::texts::{cut, trimmed};
+use crate::texts::trimmed;
 use arrayvec::ArrayVec;
 use line_base::LineFault;
+use line_base::text::cut;
 
 /// The levels of these fields, up to 16.
 fn levels_of(text: &[u8]) -> Option<ArrayVec<bool, 16>>

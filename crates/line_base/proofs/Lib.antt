@@ -3,3 +3,5 @@ pub mod Orders
 pub mod Pieces
 pub mod Readers
 pub mod Writes
+pub mod Cuts
+pub mod Numbers

@@ -8,3 +8,5 @@ pub mod Reasons
 pub mod Nibbles
 pub mod Orderly
 pub mod Readers
+pub mod Steps
+pub mod Texts

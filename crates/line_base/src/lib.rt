@@ -17,6 +17,7 @@ mod source;
 mod std_streams;
 #[cfg(test)]
 mod tests;
+pub mod text;
 
 pub use edge::{Edge, Item, Span};
 pub use faults::{Failed, LineFault, SetupFault, WordFault};

@@ -3,13 +3,13 @@ use Rattle.std.proofs.Common.{◌≡◌, ℕ, Option, Some, None, Result, Ok, Er
 use denote.Ref.{Bor}
 use Rattle.std.specs.Option.{option_copied}
 use Rattle.line_base.specs.declared.faults.WordFault.{WordFault}
-use Rattle.edge_trace.specs.Fields.{cut_at}
-use Rattle.edge_trace.proofs.LineEnds.{split_none, split_some}
+use Rattle.line_base.specs.Texts.{cut_at}
+use Rattle.line_base.proofs.Cuts.{split_none, split_some}
 use Rattle.link_words.specs.declared.setting.Chosen.{Chosen}
 use Rattle.link_words.specs.declared.setting.Setting.{Setting}
 use Rattle.link_words.specs.Choices.{Holds}
 use Rattle.link_words.specs.declared.spec.Kind.{Kind}
-use Rattle.link_words.specs.Steps as step
+use Rattle.line_base.specs.Steps as step
 use Rattle.link_words.specs.Specs.{pair_read, pairs_read, pairs_in}
 
 -- the pairs of what is left, if anything is

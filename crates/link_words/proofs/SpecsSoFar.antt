@@ -8,7 +8,7 @@ use Rattle.line_base.specs.declared.faults.WordFault.TheVariants as fault
 use Rattle.receiver_core.specs.declared.setup.ChannelSetup.{ChannelSetup}
 use Rattle.receiver_core.specs.Setups.{setup_fault_of}
 use Rattle.link_words.specs.declared.command.WordsFault.{WordsFault}
-use Rattle.link_words.specs.Steps as step
+use Rattle.line_base.specs.Steps as step
 use Rattle.link_words.specs.Commands.{fault_at, refused, spec_at, specs_at, setups_read}
 
 -- these setups before those that are read later

@@ -9,7 +9,7 @@ use Rattle.link_words.specs.declared.command.Command.{Command}
 use Rattle.link_words.specs.declared.command.Command.TheVariants.{Decode, Check}
 use Rattle.link_words.specs.declared.command.WordsFault.{WordsFault}
 use Rattle.link_words.specs.Specs.{spec_read}
-use Rattle.link_words.specs.Steps.{◌>>=◌, check}
+use Rattle.line_base.specs.Steps.{◌>>=◌, check}
 
 -- the fault of a word, told by the word's number from 1
 abbrev pub fault_at : ℕ → WordFault → WordsFault

@@ -1,5 +1,4 @@
 pub mod Setups
-pub mod Steps
 pub mod Values
 pub mod Settings
 pub mod Choices

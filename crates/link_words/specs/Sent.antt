@@ -16,7 +16,7 @@ use Rattle.link_words.specs.declared.setting.Row.{Row}
 use Rattle.link_words.specs.declared.setting.Setting.{Setting}
 use Rattle.link_words.specs.Values.{looked_up}
 use Rattle.link_words.specs.Settings.{count_at, time_at, answer_at, crc_at, layout_at, serial_at}
-use Rattle.link_words.specs.Steps.{◌>>=◌, check}
+use Rattle.line_base.specs.Steps.{◌>>=◌, check}
 
 -- a row of the table: a key and what its value may be
 abbrev pub row : Key → Values → Row

@@ -3,7 +3,7 @@ use Rattle.std.specs.Prelude.{ℕ, ◌==◌, not, ok_or, unwrap_or, is_none, Opt
 use Rattle.std.specs.List.{slice_split}
 use Rattle.line_base.specs.declared.faults.WordFault.{WordFault}
 use Rattle.line_base.specs.declared.faults.WordFault.TheVariants as fault
-use Rattle.edge_trace.specs.Fields.{cut_at}
+use Rattle.line_base.specs.Texts.{cut_at}
 use Rattle.receiver_core.specs.declared.setup.ChannelSetup.{ChannelSetup}
 use Rattle.receiver_core.specs.Setups.{setup_fault_of}
 use Rattle.link_words.specs.declared.setting.Row.{Row}
@@ -13,7 +13,7 @@ use Rattle.link_words.specs.declared.spec.Kind.TheVariants as kind
 use Rattle.link_words.specs.Values.{looked_up, value_in}
 use Rattle.link_words.specs.Settings.{has_key}
 use Rattle.link_words.specs.Sent.{sent_row, sent_channel}
-use Rattle.link_words.specs.Steps.{◌>>=◌, check}
+use Rattle.line_base.specs.Steps.{◌>>=◌, check}
 
 -- the table of the kinds by their names: the kind that a text names; NotBuilt for a kind that isn't built yet, and Kind for what is no kind
 unfoldable pub kind_in : List ℕ → Result Kind WordFault

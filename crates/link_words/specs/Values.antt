@@ -1,7 +1,7 @@
 -- What stands behind the keys of a SPEC: numbers and words; this project's own.
 use Rattle.std.specs.Prelude.{ℕ, nat_le, ◌&&◌, Bool, true, false, option_map, Option, None, Some, List, [], ◌∷◌, if◌then◌else◌, codes}
 use Rattle.std.specs.Str.{bytes_eq}
-use Rattle.edge_trace.specs.Fields.{◌>>=◌, number_in}
+use Rattle.line_base.specs.Texts.{◌>>=◌, number_in}
 use Rattle.sent_frame.specs.declared.setup.CrcForm.{CrcForm}
 use Rattle.sent_frame.specs.declared.setup.CrcForm.TheVariants as crcs
 use Rattle.sent_fast.specs.declared.layout.Layout.{Layout}

@@ -8,8 +8,8 @@ ghost use Rattle.link_words.specs.Specs.{kind_in, row_in, pair_read, pairs_read,
 use crate::sent;
 use crate::setting::{Chosen, Row, Setting};
 use crate::value::{spells, value_of};
-use edge_trace::cut;
 use line_base::WordFault;
+use line_base::text::cut;
 use receiver_core::ChannelSetup;
 
 /// A kind of channel.

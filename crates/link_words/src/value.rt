@@ -3,7 +3,7 @@ ghost use Rattle.std.specs.Prelude.{◌≡◌, ◌≤◌, IfSome};
 ghost use Rattle.std.specs.Str.{bytes_eq};
 ghost use Rattle.link_words.specs.Values.{number_within, answer_in, crc_named, layout_named, serial_named, value_in};
 
-use edge_trace::number_of;
+use line_base::text::number_of;
 use receiver_core::Serial;
 use sent_fast::Layout;
 use sent_frame::CrcForm;

@@ -1,5 +1,6 @@
 use Rattle.std.proofs.Common.{None, ◌∙◌}
-use Rattle.edge_trace.proofs.Numbers.{not_a_number, a_number, no_whole, whole_only}
+use Rattle.line_base.proofs.Numbers.{not_a_number, a_number}
+use Rattle.edge_trace.proofs.Seconds.{no_whole, whole_only}
 use Rattle.edge_trace.proofs.digits.whole_seconds.Goals as goal
 
 pub returns-in_err-seconds : goal.returns-in_err-seconds

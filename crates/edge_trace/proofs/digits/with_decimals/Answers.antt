@@ -1,6 +1,7 @@
 use Rattle.std.proofs.Common.{Some, sym, ◌∙◌, arith}
 use Rattle.std.proofs.lemmas.Bool.{eqb-true, eqb-false}
-use Rattle.edge_trace.proofs.Numbers.{not_a_number, a_number, digits_none, digits_some, no_whole, no_decimals, empty_decimals, long_decimals, both_parts}
+use Rattle.line_base.proofs.Numbers.{not_a_number, a_number, digits_none, digits_some}
+use Rattle.edge_trace.proofs.Seconds.{no_whole, no_decimals, empty_decimals, long_decimals, both_parts}
 use Rattle.edge_trace.proofs.digits.with_decimals.Goals as goal
 use Rattle.edge_trace.proofs.digits.with_decimals.Goals.{then-is_empty-via-then-is_empty, then-is_empty-via-else-is_empty+then-decimals-gt9}
 

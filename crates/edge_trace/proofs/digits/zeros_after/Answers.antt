@@ -1,5 +1,5 @@
 use Rattle.std.proofs.Common.{arith}
-use Rattle.edge_trace.proofs.Numbers.{zero_more}
+use Rattle.edge_trace.proofs.Seconds.{zero_more}
 use Rattle.edge_trace.proofs.digits.zeros_after.Goals as goal
 
 pub loop-preserved : goal.loop-preserved

@@ -1,6 +1,5 @@
 use Rattle.std.proofs.Common.{◌≡◌, ◌-◌, ◌≤◌, replicate}
-use Rattle.edge_trace.specs.Fields.{number_after}
-use Rattle.edge_trace.specs.Digits.{capped}
+use Rattle.line_base.specs.Texts.{number_after, capped}
 use Rattle.edge_trace.proofs.digits.zeros_after.Given as goal
 
 abbrev pub invariant-loop : goal.invariant-loop

@@ -1,5 +1,5 @@
 use Rattle.std.proofs.Common.{◌∙◌, arith}
-use Rattle.edge_trace.specs.Fields.{number_in}
+use Rattle.line_base.specs.Texts.{number_in}
 use Rattle.edge_trace.proofs.FirstLines.{no_unit, no_end, unit_number, no_number, in_range, below_range, above_range}
 use Rattle.edge_trace.proofs.form.version_unit.Goals as goal
 use Rattle.edge_trace.proofs.form.version_unit.Goals.{then-unit-lt1-via-then-unit-lt1, then-unit-lt1-via-else-unit-lt1+then-unit-gt1000000}

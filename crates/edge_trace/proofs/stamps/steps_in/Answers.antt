@@ -1,5 +1,5 @@
 use Rattle.std.proofs.Common.{◌∙◌}
-use Rattle.edge_trace.specs.Fields.{number_in}
+use Rattle.line_base.specs.Texts.{number_in}
 use Rattle.edge_trace.proofs.Judging.{step_time, no_field_time, absolute_time}
 use Rattle.edge_trace.proofs.stamps.steps_in.Goals as goal
 use Rattle.edge_trace.proofs.stamps.steps_in.Goals.{in-Some+else-first-eq43, in_default}

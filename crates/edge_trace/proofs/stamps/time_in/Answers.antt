@@ -1,5 +1,6 @@
 use Rattle.std.proofs.Common.{◌∙◌}
-use Rattle.edge_trace.specs.Fields.{number_in, seconds_in}
+use Rattle.line_base.specs.Texts.{number_in}
+use Rattle.edge_trace.specs.Fields.{seconds_in}
 use Rattle.edge_trace.proofs.Judging.{narrow_form_time, wide_form_time}
 use Rattle.edge_trace.proofs.stamps.time_in.Goals as goal
 

@@ -1,7 +1,8 @@
 use Rattle.std.proofs.Common.{None, arith, ◌∙◌, ap}
 use Rattle.std.specs.Option.{option_map}
 use Rattle.edge_trace.specs.Fields.{level_in}
-use Rattle.edge_trace.proofs.WideRows.{so_far_at, one_more_level, bad_level, room_for_level, all_levels, less_left_of}
+use Rattle.line_base.proofs.Cuts.{less_left_of}
+use Rattle.edge_trace.proofs.WideRows.{so_far_at, one_more_level, bad_level, room_for_level, all_levels}
 use Rattle.edge_trace.proofs.wide.levels_of.Goals as goal
 
 pub returns-in_err-level_of : goal.returns-in_err-level_of

@@ -1,5 +1,6 @@
 use Rattle.std.specs.Option.{option_copied}
-use Rattle.edge_trace.proofs.WideRows.{LevelsSoFar, left_len}
+use Rattle.line_base.proofs.Cuts.{left_len}
+use Rattle.edge_trace.proofs.WideRows.{LevelsSoFar}
 use Rattle.edge_trace.proofs.wide.levels_of.Given as goal
 
 abbrev pub invariant-fields : goal.invariant-fields

@@ -1,6 +1,6 @@
 use Rattle.std.proofs.Common.{None}
 use Rattle.std.proofs.lemmas.Result.{err_from_is_err_and}
-use Rattle.edge_trace.proofs.WideRows.{less_left_of}
+use Rattle.line_base.proofs.Cuts.{less_left_of}
 use Rattle.link_words.proofs.Pairs.{so_far_at, one_more, bad_pair, all_read}
 use Rattle.link_words.proofs.spec.read_pairs.Goals as goal
 

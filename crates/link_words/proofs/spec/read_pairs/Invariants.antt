@@ -1,5 +1,5 @@
 use Rattle.std.specs.Option.{option_copied}
-use Rattle.edge_trace.proofs.WideRows.{left_len}
+use Rattle.line_base.proofs.Cuts.{left_len}
 use Rattle.link_words.proofs.Pairs.{ReadSoFar}
 use Rattle.link_words.proofs.spec.read_pairs.Given as goal
 

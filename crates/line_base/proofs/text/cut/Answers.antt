@@ -1,7 +1,7 @@
 use Rattle.std.proofs.Common.{arith}
 use Rattle.std.proofs.lemmas.List.{take_rest}
-use Rattle.edge_trace.proofs.LineEnds.{cut_none, cut_more, cut_found, cut_whole}
-use Rattle.edge_trace.proofs.texts.cut.Goals as goal
+use Rattle.line_base.proofs.Cuts.{cut_none, cut_more, cut_found, cut_whole}
+use Rattle.line_base.proofs.text.cut.Goals as goal
 
 pub loop-i-init : goal.loop-i-init
 loop-i-init c = cut_none _ _
