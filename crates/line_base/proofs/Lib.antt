@@ -5,3 +5,4 @@ pub mod Readers
 pub mod Writes
 pub mod Cuts
 pub mod Numbers
+pub mod Decimals

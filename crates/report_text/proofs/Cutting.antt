@@ -5,8 +5,8 @@ use Rattle.std.proofs.lemmas.Bool.{and_parts, not-true, ne_eqb}
 use Rattle.std.proofs.lemmas.List.{append-nil, append_assoc}
 use Rattle.std.proofs.lemmas.List.Splits.{length-slice_split}
 use denote.Ref.{Bor}
-use Rattle.edge_trace.specs.Fields.{cut_at}
-use Rattle.edge_trace.proofs.LineEnds.{split_none, split_some}
+use Rattle.line_base.specs.Texts.{cut_at}
+use Rattle.line_base.proofs.Cuts.{split_none, split_some}
 use Rattle.report_text.specs.declared.fault.TextFault.{TextFault}
 use Rattle.report_text.specs.declared.fault.TextFault.TheVariants.{Word}
 use Rattle.report_text.specs.Fields.{is_space, line_of, fields_of, fields_left, field_read, spaced}

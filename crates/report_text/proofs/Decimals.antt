@@ -4,13 +4,13 @@ use Rattle.std.specs.List.{list_all}
 use Rattle.std.proofs.lemmas.Bool.{and_parts, leb-true, le-leb, lt-ltb, ltb-true, ne_eqb, eq-eqb, eqb-true, not-true, cases_lt, false_from_ne_true}
 use Rattle.std.proofs.lemmas.List.{drop_more, drop_all}
 use Rattle.std.proofs.lemmas.Fmt.{decimal_nonempty, decimal_digit, first_decimal, digits_decimal, digits_value-decimal, decimal-digits_value}
-use Rattle.edge_trace.specs.Fields.{is_digit, is_number, number_after, number_in}
-use Rattle.edge_trace.specs.Digits.{capped}
-use Rattle.edge_trace.proofs.Numbers.{digit_true, number_after_ge, a_number}
-use Rattle.edge_trace.proofs.ReadsBack.{numerals, number_back, digit_bounds}
+use Rattle.line_base.specs.Texts.{is_digit, is_number, number_after, number_in}
+use Rattle.line_base.specs.Texts.{capped}
+use Rattle.line_base.proofs.Numbers.{digit_true, number_after_ge, a_number}
+use Rattle.line_base.proofs.Decimals.{numerals, number_back, digit_bounds}
 use Rattle.report_text.specs.declared.fault.TextFault.{TextFault}
 use Rattle.report_text.specs.declared.fault.TextFault.TheVariants.{Number, Range}
-use Rattle.report_text.specs.Steps.{◌>>=◌, check}
+use Rattle.line_base.specs.Steps.{◌>>=◌, check}
 use Rattle.report_text.specs.Decimals.{two_digits, digit_in, channel_in, has_leading_zero, number_spelled, count_spelled}
 use Rattle.report_text.proofs.Steps.{bind_ok, check_ok, some_ok, ok_is}
 use Rattle.report_text.proofs.Cutting.{is_other}

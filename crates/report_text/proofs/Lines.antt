@@ -10,7 +10,8 @@ use Rattle.receiver_core.specs.declared.report.What.{What}
 use Rattle.receiver_core.specs.declared.report.What.TheVariants as what
 use Rattle.report_text.specs.declared.fault.TextFault.{TextFault}
 use Rattle.report_text.specs.declared.fault.TextFault.TheVariants.{Word}
-use Rattle.report_text.specs.Steps.{◌>>=◌, looked_up}
+use Rattle.line_base.specs.Steps.{◌>>=◌}
+use Rattle.line_base.specs.Texts.{looked_up}
 use Rattle.report_text.specs.Fields.{field_read, value_read}
 use Rattle.report_text.specs.Decimals.{count_spelled}
 use Rattle.report_text.specs.Hex.{hex_digit, hex_text, hex_in, data_in}

@@ -6,10 +6,10 @@ use Rattle.std.proofs.lemmas.List.{length-append, length-map, append_assoc}
 use Rattle.std.proofs.lemmas.List.Elements.{All-nil, All-cons, All-head, All-tail, All-push, All-append}
 use Rattle.std.proofs.Math.Nat.{pow-suc}
 use Rattle.std.proofs.lemmas.Nat.{div_below, div-mul-add, mod-mul-add, div-add-mod', mod_below}
-use Rattle.edge_trace.specs.Fields.{is_digit}
+use Rattle.line_base.specs.Texts.{is_digit}
 use Rattle.report_text.specs.declared.fault.TextFault.{TextFault}
 use Rattle.report_text.specs.declared.fault.TextFault.TheVariants.{Number}
-use Rattle.report_text.specs.Steps.{◌>>=◌, check}
+use Rattle.line_base.specs.Steps.{◌>>=◌, check}
 use Rattle.report_text.specs.Hex.{hex_digit, nibbles_of, nibble_in, nibbles_in, number_with}
 use Rattle.report_text.proofs.Steps.{bind_ok, ok_is}
 use Rattle.report_text.proofs.Cutting.{is_other}
@@ -91,9 +91,6 @@ nibbles_free (nibble ∷ nibbles) low =
 number_append : (before : ℕ) (front others : List ℕ) → number_with before (front ++ others) ≡ number_with (number_with before front) others
 number_append before [] others = refl
 number_append before (nibble ∷ front) others = number_append (before * 16 + nibble) front others
-
-
-
 
 -- a number of so many nibbles: they are as many, each below 16, and it is the number that they give
 pub record HasNibbles (width number : ℕ) : Type 0 where

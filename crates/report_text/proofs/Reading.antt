@@ -6,7 +6,7 @@ use Rattle.std.proofs.lemmas.List.{append_assoc, append-nil, drop_more, drop_all
 use Rattle.line_base.specs.Nibbles.{AreNibbles}
 use Rattle.report_text.specs.declared.fault.TextFault.{TextFault}
 use Rattle.report_text.specs.declared.fault.TextFault.TheVariants.{Number}
-use Rattle.report_text.specs.Steps.{◌>>=◌, check}
+use Rattle.line_base.specs.Steps.{◌>>=◌, check}
 use Rattle.report_text.specs.Hex.{hex_digit, hex_text, nibbles_of, nibbles_in, nibble_in, number_with, hex_in, data_in}
 use Rattle.report_text.proofs.Nibbles.{nibbles_taken}
 

@@ -9,7 +9,7 @@ use Rattle.receiver_core.specs.declared.report.Report.{Report}
 use Rattle.receiver_core.specs.declared.report.What.{What}
 use Rattle.report_text.specs.declared.fault.TextFault.{TextFault}
 use Rattle.report_text.specs.declared.fault.TextFault.TheVariants.{End}
-use Rattle.report_text.specs.Steps.{◌>>=◌, check}
+use Rattle.line_base.specs.Steps.{◌>>=◌, check}
 use Rattle.report_text.specs.Fields.{line_of, fields_of, value_read}
 use Rattle.report_text.specs.Decimals.{two_digits, channel_in, number_spelled}
 use Rattle.report_text.specs.Readings.{left}
@@ -44,7 +44,7 @@ report_taken text found e =
     let c = said_taken place.0.1 said.0 said.1 in
     let nothing : said.0.1 ≡ [] = nil_from_length said.0.1 (eqb-true (length said.0.1) 0 ended.0) in
     let fields : fields_of text ≡ two_digits made.0 ∷ decimal made.1.place ∷ says made.1.what =
-        a.0 ∙ ap (λ (fs : List (List ℕ)). two_digits channel.0.0 ∷ fs) (b.0 ∙ ap (λ (fs : List (List ℕ)). decimal place.0.0 ∷ fs) (c.0 ∙ ap (λ (fs : List (List ℕ)). says said.0.0 ++ fs) nothing ∙ append-nil (says said.0.0))) in
+    a.0 ∙ ap (λ (fs : List (List ℕ)). two_digits channel.0.0 ∷ fs) (b.0 ∙ ap (λ (fs : List (List ℕ)). decimal place.0.0 ∷ fs) (c.0 ∙ ap (λ (fs : List (List ℕ)). says said.0.0 ++ fs) nothing ∙ append-nil (says said.0.0))) in
     subst (λ (f : ℕ × Report). IsLineOf text f.0 f.1) (ok_is made found ended.1)
     (record { spelled = line_is text made.0 made.1 fields; low = a.1; tellable = record { place = b.1; said = c.1 } })
 
@@ -66,9 +66,10 @@ report_again channel report low own =
 
 -- so each report has one spelling
 pub exactly : (text : List ℕ) (result : Result (ℕ × Report) TextFault) → result ≡ report_read text → (channel : ℕ) (report : Report) → (result ≡ Ok (channel, report)) ↔ ((text ≡ report_text channel report) × (channel < 16) × IsTellable report)
-exactly text result e channel report =
-    (λ found. (let line = report_taken text (channel, report) (sym e ∙ found) in (line.spelled, line.low, line.tellable)),
-    λ line. e ∙ ap report_read line.0 ∙ report_again channel report line.1 line.2)
+exactly text result e channel report = (
+  λ found. (let line = report_taken text (channel, report) (sym e ∙ found) in (line.spelled, line.low, line.tellable)),
+  λ line. e ∙ ap report_read line.0 ∙ report_again channel report line.1 line.2,
+)
 
 -- what goes on behind its last field is no line
 pub goes_on : (text : List ℕ) (channel place : ℕ) (said : What) (first second : List (List ℕ)) (rest : Option (Bor (List ℕ))) (behind : Bor (List ℕ)) → value_read channel_in (fields_of text) ≡ Ok (channel, first) → value_read number_spelled first ≡ Ok (place, second) → what_read second ≡ Ok (said, left rest) → rest ≡ Some behind → Err End ≡ report_read text

@@ -8,7 +8,7 @@ use Rattle.line_base.specs.Nibbles.{AreNibbles}
 use Rattle.line_base.specs.declared.rule.Rule.{Rule}
 use Rattle.report_text.specs.declared.fault.TextFault.{TextFault}
 use Rattle.report_text.specs.declared.fault.TextFault.TheVariants.{Number}
-use Rattle.report_text.specs.Steps.{◌>>=◌, check}
+use Rattle.line_base.specs.Steps.{◌>>=◌, check}
 use Rattle.report_text.specs.Fields.{field_read, value_read}
 use Rattle.report_text.specs.Decimals.{two_digits, channel_in, number_spelled, count_spelled}
 use Rattle.report_text.specs.Hex.{hex_digit, hex_text, nibbles_of, nibbles_in, number_with, hex_in, data_in}

@@ -1,7 +1,7 @@
 -- What follows from steps that didn't fail.
 use Rattle.std.proofs.Common.{◌≡◌, ℕ, Bool, true, false, Option, Some, None, Result, Ok, Err, List, ok_or, refl}
 use Rattle.report_text.specs.declared.fault.TextFault.{TextFault}
-use Rattle.report_text.specs.Steps.{◌>>=◌, check}
+use Rattle.line_base.specs.Steps.{◌>>=◌, check}
 
 -- the value of a step that did not fail
 pub bind_ok : {A B : Type 0} (r : Result A TextFault) (next : A → Result B TextFault) (y : B) → (r >>= next) ≡ Ok y → (x : A) × (r ≡ Ok x) × (next x ≡ Ok y)

@@ -1,9 +1,9 @@
 -- Decimal numbers in a line; this project's own.
 use Rattle.std.specs.Prelude.{ℕ, ◌+◌, ◌-◌, ◌*◌, ◌/◌, ◌%◌, ◌^◌, ◌==◌, nat_lt, nat_le, Bool, false, not, ok_or, Result, Ok, Err, List, [], ◌∷◌, if◌then◌else◌}
-use Rattle.edge_trace.specs.Fields.{is_digit, number_in}
+use Rattle.line_base.specs.Texts.{is_digit, number_in}
 use Rattle.report_text.specs.declared.fault.TextFault.{TextFault}
 use Rattle.report_text.specs.declared.fault.TextFault.TheVariants.{Number, Range}
-use Rattle.report_text.specs.Steps.{◌>>=◌, check}
+use Rattle.line_base.specs.Steps.{◌>>=◌, check}
 
 -- a number below 100 in two decimal digits
 abbrev pub two_digits : ℕ → List ℕ

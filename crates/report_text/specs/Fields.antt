@@ -3,7 +3,7 @@ use Rattle.std.specs.Prelude.{ℕ, ◌==◌, Bool, Option, None, Some, Result, O
 use Rattle.std.specs.List.{slice_split, join_with_byte}
 use Rattle.report_text.specs.declared.fault.TextFault.{TextFault}
 use Rattle.report_text.specs.declared.fault.TextFault.TheVariants.{Word}
-use Rattle.report_text.specs.Steps.{◌>>=◌}
+use Rattle.line_base.specs.Steps.{◌>>=◌}
 
 -- the byte is a space, which parts two fields
 abbrev pub is_space : ℕ → Bool

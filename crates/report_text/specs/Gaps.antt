@@ -3,7 +3,7 @@ use Rattle.std.specs.Prelude.{ℕ, ◌<◌, ◌≤◌, ◌^◌, Result, Ok, List
 use Rattle.receiver_core.specs.declared.report.What.{What}
 use Rattle.receiver_core.specs.declared.report.What.TheVariants.{Gap}
 use Rattle.report_text.specs.declared.fault.TextFault.{TextFault}
-use Rattle.report_text.specs.Steps.{◌>>=◌}
+use Rattle.line_base.specs.Steps.{◌>>=◌}
 use Rattle.report_text.specs.Fields.{value_read}
 use Rattle.report_text.specs.Decimals.{count_spelled}
 

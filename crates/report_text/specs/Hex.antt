@@ -1,9 +1,9 @@
 -- Hexadecimal digits in a line, in upper case; this project's own.
 use Rattle.std.specs.Prelude.{ℕ, zero, suc, ◌+◌, ◌-◌, ◌*◌, ◌/◌, ◌%◌, ◌==◌, ◌&&◌, nat_le, Result, Ok, Err, List, [], ◌∷◌, ◌++◌, codes, length, map, slice_index, if◌then◌else◌}
-use Rattle.edge_trace.specs.Fields.{is_digit}
+use Rattle.line_base.specs.Texts.{is_digit}
 use Rattle.report_text.specs.declared.fault.TextFault.{TextFault}
 use Rattle.report_text.specs.declared.fault.TextFault.TheVariants.{Number}
-use Rattle.report_text.specs.Steps.{◌>>=◌, check}
+use Rattle.line_base.specs.Steps.{◌>>=◌, check}
 
 -- a nibble as a hexadecimal digit
 abbrev pub hex_digit : ℕ → ℕ

@@ -5,7 +5,8 @@ use Rattle.receiver_core.specs.declared.report.What.{What}
 use Rattle.receiver_core.specs.declared.report.What.TheVariants as what
 use Rattle.report_text.specs.declared.fault.TextFault.{TextFault}
 use Rattle.report_text.specs.declared.fault.TextFault.TheVariants.{Word, End}
-use Rattle.report_text.specs.Steps.{◌>>=◌, check, looked_up}
+use Rattle.line_base.specs.Steps.{◌>>=◌, check}
+use Rattle.line_base.specs.Texts.{looked_up}
 use Rattle.report_text.specs.Fields.{line_of, fields_of, field_read, value_read}
 use Rattle.report_text.specs.Decimals.{two_digits, channel_in, number_spelled}
 use Rattle.report_text.specs.Sent.{IsFrameTold, IsValueTold, IsEnhancedTold, frame_fields, value_fields, counter_fields, short_fields, enhanced_fields, frame_read, one_read, two_read, secure_read, split_read, counter_read, short_read, narrow_read, wide_read}

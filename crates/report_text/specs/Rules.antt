@@ -7,7 +7,7 @@ use Rattle.receiver_core.specs.declared.report.What.{What}
 use Rattle.receiver_core.specs.declared.report.What.TheVariants.{Bad}
 use Rattle.report_text.specs.declared.fault.TextFault.{TextFault}
 use Rattle.report_text.specs.declared.fault.TextFault.TheVariants.{Word}
-use Rattle.report_text.specs.Steps.{◌>>=◌}
+use Rattle.line_base.specs.Steps.{◌>>=◌}
 use Rattle.report_text.specs.Fields.{value_read}
 
 -- the name of a rule

@@ -7,7 +7,7 @@ use Rattle.sent_fast.specs.declared.layout.Fast.TheVariants as fast
 use Rattle.receiver_core.specs.declared.report.What.{What}
 use Rattle.receiver_core.specs.declared.report.What.TheVariants as what
 use Rattle.report_text.specs.declared.fault.TextFault.{TextFault}
-use Rattle.report_text.specs.Steps.{◌>>=◌}
+use Rattle.line_base.specs.Steps.{◌>>=◌}
 use Rattle.report_text.specs.Fields.{value_read}
 use Rattle.report_text.specs.Hex.{hex_digit, hex_text, hex_in, data_in}
 

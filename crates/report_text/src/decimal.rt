@@ -1,6 +1,6 @@
 //! Decimal numbers in a line.
 ghost use Rattle.std.specs.Prelude.{◌≡◌, ◌+◌, ◌^◌, ◌<◌, ◌≤◌, ◌++◌, IfOk, SomeIff, decimal, length};
-ghost use Rattle.edge_trace.specs.Fields.{number_after};
+ghost use Rattle.line_base.specs.Texts.{number_after};
 ghost use Rattle.report_text.specs.Decimals.{two_digits, digit_in, channel_in, has_leading_zero, number_spelled, count_spelled};
 ghost use Rattle.report_text.specs.Fields.{value_read};
 ghost use Rattle.report_text.specs.Readings.{Reads, left};
@@ -9,6 +9,7 @@ use crate::fault::TextFault;
 use crate::fields::{Rest, next_field};
 use arrayvec::ArrayString;
 use itoa::Buffer;
+use line_base::text;
 
 /// Adds a number in decimal.
 pub(crate) fn push_decimal<const N: usize>(out: &mut ArrayString<N>, number: u64)
@@ -92,7 +93,7 @@ fn has_leading_zero(field: &[u8]) -> bool
 fn number_of(field: &[u8]) -> Result<u64, TextFault>
     ensures { result ≡ number_spelled field.now }
 {
-    edge_trace::number_of(field).ok_or(TextFault::Number)?;
+    text::number_of(field).ok_or(TextFault::Number)?;
     if has_leading_zero(field) {
         return Err(TextFault::Number);
     }

@@ -3,7 +3,7 @@ ghost use Rattle.report_text.specs.Fields.{field_read};
 ghost use Rattle.report_text.specs.Readings.{FieldReads, left};
 
 use crate::fault::TextFault;
-use edge_trace::cut;
+use line_base::text::cut;
 
 /// What is left of a text behind a field: what stands behind the space that ended it, or nothing where the
 /// text has ended.

@@ -55,7 +55,12 @@ pub(crate) fn push_value(out: &mut ArrayString<LINE_ROOM>, value: &Fast)
         }
         Fast::Two { a, b } => push_two(out, " two ", (3, u32::from(*a)), (3, u32::from(*b))),
         Fast::Secure { a, counter } => {
-            push_two(out, " secure ", (3, u32::from(*a)), (2, u32::from(*counter)));
+            push_two(
+                out,
+                " secure ",
+                (3, u32::from(*a)),
+                (2, u32::from(*counter)),
+            );
         }
         Fast::Split { a, b } => push_two(out, " split ", (4, u32::from(*a)), (2, u32::from(*b))),
     }
@@ -67,7 +72,12 @@ pub(crate) fn push_counter(out: &mut ArrayString<LINE_ROOM>, before: u8, now: u8
     ensures bytes { out.new.bytes ≡ out.old.bytes ++ spaced (counter_fields before now) }
     ensures len { length out.new.bytes ≤ 56 }
 {
-    push_two(out, " counter ", (2, u32::from(before)), (2, u32::from(now)));
+    push_two(
+        out,
+        " counter ",
+        (2, u32::from(before)),
+        (2, u32::from(now)),
+    );
 }
 
 /// Adds a short serial message.
@@ -86,9 +96,19 @@ pub(crate) fn push_enhanced(out: &mut ArrayString<LINE_ROOM>, id: u8, value: u16
     ensures len { length out.new.bytes ≤ 56 }
 {
     if wide {
-        push_two(out, " enhanced4 ", (1, u32::from(id)), (4, u32::from(value)));
+        push_two(
+            out,
+            " enhanced4 ",
+            (1, u32::from(id)),
+            (4, u32::from(value)),
+        );
     } else {
-        push_two(out, " enhanced8 ", (2, u32::from(id)), (3, u32::from(value)));
+        push_two(
+            out,
+            " enhanced8 ",
+            (2, u32::from(id)),
+            (3, u32::from(value)),
+        );
     }
 }
 
@@ -102,10 +122,13 @@ pub(crate) fn read_frame<'a>(rest: Rest<'a>) -> Result<(What, Rest<'a>), TextFau
         Ok(found) => found,
         Err(fault) => return Err(fault),
     };
-    Ok((What::Frame(SentFrame {
-        status: status as u8,
-        nibbles,
-    }), rest))
+    Ok((
+        What::Frame(SentFrame {
+            status: status as u8,
+            nibbles,
+        }),
+        rest,
+    ))
 }
 
 /// What stands behind `one`.
@@ -124,7 +147,13 @@ pub(crate) fn read_two<'a>(rest: Rest<'a>) -> Result<(What, Rest<'a>), TextFault
 {
     let (a, rest) = read_hex(3, rest)?;
     let (b, rest) = read_hex(3, rest)?;
-    Ok((What::Fast(Fast::Two { a: a as u16, b: b as u16 }), rest))
+    Ok((
+        What::Fast(Fast::Two {
+            a: a as u16,
+            b: b as u16,
+        }),
+        rest,
+    ))
 }
 
 /// What stands behind `secure`: the value and the counter.
@@ -134,7 +163,13 @@ pub(crate) fn read_secure<'a>(rest: Rest<'a>) -> Result<(What, Rest<'a>), TextFa
 {
     let (a, rest) = read_hex(3, rest)?;
     let (counter, rest) = read_hex(2, rest)?;
-    Ok((What::Fast(Fast::Secure { a: a as u16, counter: counter as u8 }), rest))
+    Ok((
+        What::Fast(Fast::Secure {
+            a: a as u16,
+            counter: counter as u8,
+        }),
+        rest,
+    ))
 }
 
 /// What stands behind `split`.
@@ -144,7 +179,13 @@ pub(crate) fn read_split<'a>(rest: Rest<'a>) -> Result<(What, Rest<'a>), TextFau
 {
     let (a, rest) = read_hex(4, rest)?;
     let (b, rest) = read_hex(2, rest)?;
-    Ok((What::Fast(Fast::Split { a: a as u16, b: b as u8 }), rest))
+    Ok((
+        What::Fast(Fast::Split {
+            a: a as u16,
+            b: b as u8,
+        }),
+        rest,
+    ))
 }
 
 /// What stands behind `counter`: the counter before, and this one.
@@ -154,7 +195,13 @@ pub(crate) fn read_counter<'a>(rest: Rest<'a>) -> Result<(What, Rest<'a>), TextF
 {
     let (before, rest) = read_hex(2, rest)?;
     let (now, rest) = read_hex(2, rest)?;
-    Ok((What::Counter { before: before as u8, now: now as u8 }, rest))
+    Ok((
+        What::Counter {
+            before: before as u8,
+            now: now as u8,
+        },
+        rest,
+    ))
 }
 
 /// What stands behind `short`: the ID and the value.
@@ -164,7 +211,13 @@ pub(crate) fn read_short<'a>(rest: Rest<'a>) -> Result<(What, Rest<'a>), TextFau
 {
     let (id, rest) = read_hex(1, rest)?;
     let (value, rest) = read_hex(2, rest)?;
-    Ok((What::Short { id: id as u8, value: value as u8 }, rest))
+    Ok((
+        What::Short {
+            id: id as u8,
+            value: value as u8,
+        },
+        rest,
+    ))
 }
 
 /// What stands behind `enhanced8`: an ID of 8 bits and a value of 12.
@@ -174,7 +227,14 @@ pub(crate) fn read_narrow<'a>(rest: Rest<'a>) -> Result<(What, Rest<'a>), TextFa
 {
     let (id, rest) = read_hex(2, rest)?;
     let (value, rest) = read_hex(3, rest)?;
-    Ok((What::Enhanced { id: id as u8, value: value as u16, wide: false }, rest))
+    Ok((
+        What::Enhanced {
+            id: id as u8,
+            value: value as u16,
+            wide: false,
+        },
+        rest,
+    ))
 }
 
 /// What stands behind `enhanced4`: an ID of 4 bits and a value of 16.
@@ -184,5 +244,12 @@ pub(crate) fn read_wide<'a>(rest: Rest<'a>) -> Result<(What, Rest<'a>), TextFaul
 {
     let (id, rest) = read_hex(1, rest)?;
     let (value, rest) = read_hex(4, rest)?;
-    Ok((What::Enhanced { id: id as u8, value: value as u16, wide: true }, rest))
+    Ok((
+        What::Enhanced {
+            id: id as u8,
+            value: value as u16,
+            wide: true,
+        },
+        rest,
+    ))
 }
