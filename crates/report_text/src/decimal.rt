@@ -11,8 +11,8 @@ use arrayvec::ArrayString;
 use itoa::Buffer;
 use line_base::text;
 
-/// Adds a number in decimal.
-pub(crate) fn push_decimal<const N: usize>(out: &mut ArrayString<N>, number: u64)
+/// Adds a number in decimal, at most 20 digits.
+pub fn push_decimal<const N: usize>(out: &mut ArrayString<N>, number: u64)
     requires { length out.old.bytes + 20 ≤ N }
     ensures bytes { out.new.bytes ≡ out.old.bytes ++ decimal number }
     ensures len { length out.new.bytes ≤ length out.old.bytes + 20 }

@@ -17,6 +17,7 @@ mod sent;
 mod tests;
 mod totals;
 
+pub use decimal::push_decimal;
 pub use fault::TextFault;
 pub use line::{LINE_ROOM, read_report, write_report};
 pub use totals::{TOTAL_ROOM, write_total};

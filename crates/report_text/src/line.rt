@@ -35,8 +35,8 @@ fn push_what(out: &mut ArrayString<LINE_ROOM>, what: &What)
     }
 }
 
-/// Writes the line of a report of a channel, without its LF. The channel is 0 to 15. Of a number that has
-/// more hexadecimal digits than its field, the lowest are written.
+/// Writes the line of a report of a channel, 0 to 15, without its LF. Of a number that has more hexadecimal
+/// digits than its field, the lowest are written; a value that the nibbles alone tell has no fields.
 pub fn write_report(channel: u8, report: &Report, out: &mut ArrayString<LINE_ROOM>)
     requires channel { channel < 16 }
     requires empty { out.old.bytes ≡ [] }
@@ -112,8 +112,10 @@ fn report_of(text: &[u8]) -> Result<(u8, Report), TextFault>
 }
 
 /// The channel, 0 to 15, and the report whose line, without its LF, a text is; else the first fault from the
-/// left. A line has one space between each two fields, hexadecimal digits in upper case, and no leading zeros
-/// in decimal numbers.
+/// left. `Word`: a field is needed and the text has ended or the field is empty, or a word is no keyword or no
+/// name of a rule. `Number`: a wrong digit, a wrong number of hexadecimal digits, or a leading zero. `Range`: a
+/// channel above 15, a place or a count of 2^64 or more, or a gap of no edges. `End`: the text goes on behind
+/// the last field.
 pub fn read_report(text: &str) -> Result<(u8, Report), TextFault>
     ensures value { result ≡ report_read text.now }
     ensures exact { (channel : ℕ) (report : Report) → (result ≡ Ok (channel, report)) ↔ ((text.now ≡ report_text channel report) × (channel < 16) × IsTellable report) }

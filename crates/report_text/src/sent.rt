@@ -14,7 +14,8 @@ use receiver_core::What;
 use sent_fast::Fast;
 use sent_frame::SentFrame;
 
-/// Adds a keyword with its spaces, and two numbers in so many hexadecimal digits.
+/// Adds a keyword with its spaces, and two numbers, each given as how many hexadecimal digits it has and its
+/// value.
 fn push_two(out: &mut ArrayString<LINE_ROOM>, word: &str, first: (usize, u32), second: (usize, u32))
     requires room { length out.old.bytes ≤ 24 }
     requires word { length word.now ≤ 12 }
