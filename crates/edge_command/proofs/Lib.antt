@@ -1,4 +1,3 @@
-pub mod Joined
 pub mod Answers
 pub mod Counting
 pub mod OneMore

@@ -9,8 +9,7 @@ use Rattle.receiver_core.specs.declared.report.Report.{Report}
 use Rattle.receiver_core.specs.declared.setup.ChannelSetup.{ChannelSetup}
 use Rattle.receiver_core.specs.declared.tally.Tally.{Tally}
 use Rattle.edge_command.specs.declared.channel.Channel.{Channel}
-use Rattle.edge_command.specs.Texts.{report_line, total_line}
-use Rattle.edge_command.specs.Channels.{reports_added, reports_of_end, lines_of, edge_lines, end_lines, total_lines, told_lines, has_marks, is_marked}
+use Rattle.edge_command.specs.Channels.{report_line, total_line, reports_added, reports_of_end, lines_of, edge_lines, end_lines, total_lines, told_lines, has_marks, is_marked}
 use Rattle.edge_command.specs.Followed.{Follows, AllFollow, AllCounted, setups_of}
 use Rattle.edge_command.specs.Writes.{Written, Takes, TakesFront}
 use Rattle.edge_command.proofs.Writing.{takes-then, then-cut, cut-behind, told-then, lines-then, no-lines}

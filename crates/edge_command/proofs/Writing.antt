@@ -6,8 +6,7 @@ use Rattle.std.proofs.KnownBytes.{Appends-nil, Appends-trans}
 use Rattle.std.specs.Io.KnownBytes.{Appends}
 use Rattle.line_base.specs.Streams.{IsFrontOf, AppendsFront}
 use Rattle.receiver_core.specs.declared.report.Report.{Report}
-use Rattle.edge_command.specs.Texts.{report_line}
-use Rattle.edge_command.specs.Channels.{lines_of, told_lines}
+use Rattle.edge_command.specs.Channels.{report_line, lines_of, told_lines}
 use Rattle.edge_command.specs.Writes.{Written, Takes, TakesFront, GrowsAlong, GrowsTowards}
 
 -- no text is written

@@ -1,5 +1,5 @@
 -- What is read of an edge list on its channels, and what is told of each; this project's own.
-use Rattle.std.specs.Prelude.{ℕ, ◌+◌, ◌==◌, ◌||◌, nat_lt, Bool, is_some, List, [], ◌∷◌, ◌++◌, length, drop, filter, flat_map, map, if◌then◌else◌}
+use Rattle.std.specs.Prelude.{ℕ, ◌+◌, ◌==◌, ◌||◌, nat_lt, Bool, is_some, List, [], ◌∷◌, ◌++◌, codes, length, drop, filter, flat_map, map, if◌then◌else◌}
 use Rattle.std.specs.List.{list_any}
 use Rattle.line_base.specs.declared.edge.Edge.{Edge}
 use Rattle.line_base.specs.declared.edge.Item.{Item}
@@ -11,7 +11,8 @@ use Rattle.receiver_core.specs.declared.tally.Tally.{Tally}
 use Rattle.receiver_core.specs.Setups.{line_of}
 use Rattle.receiver_core.specs.Channels.{so_far, final}
 use Rattle.receiver_core.specs.Tallies.{tally_of}
-use Rattle.edge_command.specs.Texts.{report_line, total_line}
+use Rattle.report_text.specs.Reports.{report_text}
+use Rattle.report_text.specs.Totals.{total_text}
 
 -- the edge is on a line that the channel reads
 abbrev pub is_on : ChannelSetup → Edge → Bool
@@ -36,6 +37,14 @@ reports_added setup before edge = drop (length (reports_on setup before)) (repor
 -- the reports by which those of a channel grow at the end
 unfoldable pub reports_of_end : ChannelSetup → List Edge → List Report
 reports_of_end setup edges = drop (length (reports_on setup edges)) (final_on setup edges)
+
+-- the line of a report of the channel with this number, with its LF
+unfoldable pub report_line : ℕ → Report → List ℕ
+report_line channel report = report_text channel report ++ codes "\n"
+
+-- the total line of the channel with this number, with its LF
+unfoldable pub total_line : ℕ → Tally → List ℕ
+total_line channel tally = total_text channel tally ++ codes "\n"
 
 -- the lines of these reports of the channel with this number
 unfoldable pub lines_of : ℕ → List Report → List ℕ

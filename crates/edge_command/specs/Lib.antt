@@ -1,5 +1,3 @@
-pub mod Names
-pub mod Texts
 pub mod Channels
 pub mod Writes
 pub mod Followed

@@ -4,18 +4,17 @@ ghost use Rattle.line_base.specs.Causes.{HasCause};
 ghost use Rattle.line_base.specs.declared.edge.Edge.{Edge};
 ghost use Rattle.receiver_core.specs.Setups.{setup_fault_of};
 ghost use Rattle.receiver_core.specs.declared.setup.ChannelSetup.{ChannelSetup};
-ghost use Rattle.edge_command.specs.Channels.{edge_lines, end_lines, final_on, has_marks, is_marked, lines_of, reports_added, reports_of_end, told_lines, total_lines};
+ghost use Rattle.edge_command.specs.Channels.{edge_lines, end_lines, final_on, has_marks, is_marked, lines_of, report_line, reports_added, reports_of_end, told_lines, total_line, total_lines};
 ghost use Rattle.edge_command.specs.Followed.{AllCounted, AllFollow, Follows, setups_of};
 ghost use Rattle.receiver_core.specs.Tallies.{tally_of};
-ghost use Rattle.edge_command.specs.Texts.{report_line, total_line};
 ghost use Rattle.edge_command.specs.Writes.{Takes, TakesFront};
 
 use crate::channel::Channel;
 use crate::gathered::Gathered;
-use crate::report::{LINE_ROOM, TOTAL_ROOM, write_report, write_total};
 use arrayvec::{ArrayString, ArrayVec};
 use line_base::{Edge, Failed, Sink};
 use receiver_core::{ChannelSetup, Report, Tally};
+use report_text::{LINE_ROOM, TOTAL_ROOM, write_report, write_total};
 use std::alloc::{AllocError, Global};
 
 /// Channels of these setups, none of which has a fault, that have taken no edge; or the error where there is
@@ -35,6 +34,7 @@ pub fn channels_of(alloc: Global, setups: &[ChannelSetup]) -> Result<Vec<Channel
 }
 
 /// Writes the line of a report of the channel with this number, 0 to 15.
+#[tactic(auto, unfolding(crate::specs::Channels::report_line))]
 fn write_line<K: Sink>(
     number: u8,
     report: &Report,
@@ -48,10 +48,12 @@ fn write_line<K: Sink>(
 {
     let mut line = ArrayString::<LINE_ROOM>::new();
     write_report(number, report, &mut line);
+    line.push('\n');
     text.add(line.as_str().as_bytes(), out)
 }
 
 /// Writes the total line of the channel with this number, 0 to 15.
+#[tactic(auto, unfolding(crate::specs::Channels::total_line))]
 fn write_total_line<K: Sink>(
     number: u8,
     tally: &Tally,
@@ -65,6 +67,7 @@ fn write_total_line<K: Sink>(
 {
     let mut line = ArrayString::<TOTAL_ROOM>::new();
     write_total(number, tally, &mut line);
+    line.push('\n');
     text.add(line.as_str().as_bytes(), out)
 }
 

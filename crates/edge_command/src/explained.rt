@@ -2,9 +2,9 @@
 ghost use Rattle.std.specs.Prelude.{◌≡◌, ◌++◌, ◌≤◌, [], codes, decimal, length};
 ghost use Rattle.edge_command.specs.Explained.{explained_text};
 
-use crate::report::push_decimal;
 use arrayvec::ArrayString;
 use line_base::Reason;
+use report_text::push_decimal;
 
 /// The room for the line of a reason and its LF.
 pub const EXPLAINED_ROOM: usize = 64;

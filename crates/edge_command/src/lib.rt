@@ -5,9 +5,7 @@ mod channel;
 mod channels;
 mod explained;
 mod gathered;
-mod names;
 mod plain;
-mod report;
 mod run;
 #[cfg(test)]
 mod tests;

@@ -2,9 +2,7 @@
 use Rattle.std.proofs.Common.{◌≡◌, ℕ, ◌+◌, ◌*◌, ◌^◌, ◌<◌, ◌≤◌, ◌==◌, ◌&&◌, nat_le, Bool, true, false, cond, Some, None, Ok, List, [], ◌∷◌, ◌++◌, length, map, decimal, refl, sym, ◌∙◌, ap, arith}
 use Rattle.std.specs.List.{slice_split, onto_first, list_all}
 use Rattle.std.specs.Option.{ok_or}
-use Rattle.std.proofs.lemmas.Bool.{le-leb, leb-true, ne_eqb, and_parts}
-use Rattle.std.proofs.lemmas.Fmt.{decimal_nonempty, digits_decimal, digits_value-decimal}
-use Rattle.std.proofs.lemmas.Str.Parse.{IsDigitsTest, FoldsDigits, IsNumeralModel, numerals_by_fold}
+use Rattle.std.proofs.lemmas.Bool.{le-leb, ne_eqb, and_parts}
 use Rattle.line_base.specs.declared.edge.Edge.{Edge}
 use Rattle.line_base.specs.declared.faults.LineFault.TheVariants.{Number, Line, TooLarge}
 use Rattle.line_base.specs.Texts.{is_digit, number_after, number_in}
@@ -14,12 +12,7 @@ use Rattle.edge_trace.specs.Rows.{Narrow, time_field, line_field, narrow_row}
 use Rattle.edge_trace.specs.Readings.{stamp_time, time_behind, seen_by, IsStamped}
 use Rattle.edge_trace.specs.Texts.{level_digit, narrow_text}
 use Rattle.edge_trace.proofs.Judging.{narrow_time, stamped}
-use Rattle.line_base.proofs.Numbers.{digit_true}
-
-pub digit_bounds : (byte : ℕ) → is_digit byte ≡ true → (48 ≤ byte) × (byte ≤ 57)
-digit_bounds byte e =
-    let parts = and_parts (nat_le 48 byte) (nat_le byte 57) e in
-    (leb-true 48 byte parts.0, leb-true byte 57 parts.1)
+use Rattle.line_base.proofs.Decimals.{digit_bounds, number_back}
 
 -- digits up to a comma are one field
 split_digits : (digits rest : List ℕ) → list_all is_digit digits ≡ true → slice_split (λ byte. byte == 44) (digits ++ 44 ∷ rest) ≡ digits ∷ slice_split (λ byte. byte == 44) rest
@@ -50,28 +43,6 @@ plain_stamp before seen time e range =
     let value : 0 + 1 * seen ≡ seen = omega arith in
     sym (ap (λ n. check (nat_le n (10 ^ 15)) TooLarge >>= λ _. Ok n) value ∙ ap (λ t. check t TooLarge >>= λ _. Ok seen) (le-leb seen (10 ^ 15) range))
     ∙ ap (time_behind 0 1) e ∙ narrow_time before time
-
-digits_test : IsDigitsTest (λ ds. list_all is_digit ds ≡ true)
-digits_test = record {
-  empty = refl;
-  parts = λ c cs e. (let both = and_parts (is_digit c) (list_all is_digit cs) e in let range = and_parts (nat_le 48 c) (nat_le c 57) both.0 in ((leb-true 48 c range.0, leb-true c 57 range.1), both.1));
-  more = λ c cs range e. ap (λ t. t && list_all is_digit cs) (digit_true c range.0 range.1) ∙ e;
-}
-
-digits_fold : FoldsDigits number_after
-digits_fold = record { empty = λ n. refl; more = λ n c cs range. refl }
-
-pub numerals : IsNumeralModel (λ ds. list_all is_digit ds ≡ true) (number_after 0)
-numerals = numerals_by_fold (λ ds. list_all is_digit ds ≡ true) digits_test number_after digits_fold
-
-number_digits : (ds : List ℕ) → 0 < length ds → list_all is_digit ds ≡ true → Some (number_after 0 ds) ≡ number_in ds
-unfolding number_in
-number_digits [] some all = absurd (omega arith)
-number_digits (d ∷ ds) some all = sym (ap (λ t. cond t (Some (number_after 0 (d ∷ ds))) None) all)
-
--- a number reads back from its digits
-pub number_back : (n : ℕ) → n < 2 ^ 64 → Some n ≡ number_in (decimal n)
-number_back n small = ap (λ k. Some k) (sym (digits_value-decimal numerals n small)) ∙ number_digits (decimal n) (decimal_nonempty n small) (digits_decimal numerals n small)
 
 level_back : (level : Bool) → Some level ≡ level_in (level_digit level ∷ [])
 level_back true = refl

@@ -21,7 +21,8 @@ use Rattle.edge_trace.proofs.LineEnds.{keeps_line}
 use Rattle.edge_trace.proofs.Reading.{row_narrow, row_read_ok, no_time}
 use Rattle.edge_trace.proofs.Streams.{told_open, ends_line, ends_within}
 use Rattle.edge_trace.proofs.StandingFor.{answers_more, whole_more, any_number, limit_is}
-use Rattle.edge_trace.proofs.ReadsBack.{digit_bounds, numerals, row_back}
+use Rattle.line_base.proofs.Decimals.{digit_bounds, numerals}
+use Rattle.edge_trace.proofs.ReadsBack.{row_back}
 
 -- a text that begins with a digit
 record BeginsWithDigit (text : List ℕ) : Type 0 where

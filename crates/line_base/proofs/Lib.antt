@@ -8,3 +8,4 @@ pub mod Standing
 pub mod Writes
 pub mod Cuts
 pub mod Numbers
+pub mod Decimals

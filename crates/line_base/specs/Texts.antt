@@ -43,3 +43,8 @@ number_in field = if is_number field then Some (number_after 0 field) else None
 -- a number that is compared with a bound of at most 10^15 alone: the number, or 10^15 + 1 where it is greater
 abbrev pub capped : ℕ → ℕ
 capped number = min number 1000000000000001
+
+-- what stands beside a text in a table, if the text is there
+abbrev pub looked_up : {A : Type 0} → List (List ℕ × A) → List ℕ → Option A
+looked_up [] text = None
+looked_up (row ∷ rows) text = if bytes_eq text row.0 then Some row.1 else looked_up rows text

@@ -14,7 +14,7 @@ use Rattle.link_words.specs.declared.setting.Key.{Key}
 use Rattle.link_words.specs.declared.setting.Key.TheVariants as key
 use Rattle.link_words.specs.declared.setting.Row.{Row}
 use Rattle.link_words.specs.declared.setting.Setting.{Setting}
-use Rattle.link_words.specs.Values.{looked_up}
+use Rattle.line_base.specs.Texts.{looked_up}
 use Rattle.link_words.specs.Settings.{count_at, time_at, answer_at, crc_at, layout_at, serial_at}
 use Rattle.line_base.specs.Steps.{◌>>=◌, check}
 

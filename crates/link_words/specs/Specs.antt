@@ -3,14 +3,14 @@ use Rattle.std.specs.Prelude.{ℕ, ◌==◌, not, ok_or, unwrap_or, is_none, Opt
 use Rattle.std.specs.List.{slice_split}
 use Rattle.line_base.specs.declared.faults.WordFault.{WordFault}
 use Rattle.line_base.specs.declared.faults.WordFault.TheVariants as fault
-use Rattle.line_base.specs.Texts.{cut_at}
+use Rattle.line_base.specs.Texts.{cut_at, looked_up}
 use Rattle.receiver_core.specs.declared.setup.ChannelSetup.{ChannelSetup}
 use Rattle.receiver_core.specs.Setups.{setup_fault_of}
 use Rattle.link_words.specs.declared.setting.Row.{Row}
 use Rattle.link_words.specs.declared.setting.Setting.{Setting}
 use Rattle.link_words.specs.declared.spec.Kind.{Kind}
 use Rattle.link_words.specs.declared.spec.Kind.TheVariants as kind
-use Rattle.link_words.specs.Values.{looked_up, value_in}
+use Rattle.link_words.specs.Values.{value_in}
 use Rattle.link_words.specs.Settings.{has_key}
 use Rattle.link_words.specs.Sent.{sent_row, sent_channel}
 use Rattle.line_base.specs.Steps.{◌>>=◌, check}

@@ -1,7 +1,6 @@
 -- What stands behind the keys of a SPEC: numbers and words; this project's own.
 use Rattle.std.specs.Prelude.{ℕ, nat_le, ◌&&◌, Bool, true, false, option_map, Option, None, Some, List, [], ◌∷◌, if◌then◌else◌, codes}
-use Rattle.std.specs.Str.{bytes_eq}
-use Rattle.line_base.specs.Texts.{◌>>=◌, number_in}
+use Rattle.line_base.specs.Texts.{◌>>=◌, looked_up, number_in}
 use Rattle.sent_frame.specs.declared.setup.CrcForm.{CrcForm}
 use Rattle.sent_frame.specs.declared.setup.CrcForm.TheVariants as crcs
 use Rattle.sent_fast.specs.declared.layout.Layout.{Layout}
@@ -12,11 +11,6 @@ use Rattle.link_words.specs.declared.value.Values.{Values}
 use Rattle.link_words.specs.declared.value.Values.TheVariants as values
 use Rattle.link_words.specs.declared.value.Value.{Value}
 use Rattle.link_words.specs.declared.value.Value.TheVariants as value
-
--- what stands beside a text in a table, if the text is there
-abbrev pub looked_up : {A : Type 0} → List (List ℕ × A) → List ℕ → Option A
-looked_up [] text = None
-looked_up (entry ∷ others) text = if bytes_eq text entry.0 then Some entry.1 else looked_up others text
 
 -- the number from the lowest to the highest that one or more decimal digits write
 unfoldable pub number_within : ℕ → ℕ → List ℕ → Option ℕ

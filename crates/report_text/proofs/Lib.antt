@@ -1,0 +1,9 @@
+pub mod Steps
+pub mod Cutting
+pub mod Decimals
+pub mod Nibbles
+pub mod Reading
+pub mod Spellings
+pub mod RuleNames
+pub mod Lines
+pub mod Reports

@@ -1,0 +1,10 @@
+pub mod Faults
+pub mod Fields
+pub mod Decimals
+pub mod Hex
+pub mod Sent
+pub mod Rules
+pub mod Gaps
+pub mod Reports
+pub mod Totals
+pub mod Readings

@@ -1,0 +1,140 @@
+//! Decimal numbers in a line.
+ghost use Rattle.std.specs.Prelude.{◌≡◌, ◌+◌, ◌^◌, ◌<◌, ◌≤◌, ◌++◌, IfOk, SomeIff, decimal, length};
+ghost use Rattle.line_base.specs.Texts.{number_after};
+ghost use Rattle.report_text.specs.Decimals.{two_digits, digit_in, channel_in, has_leading_zero, number_spelled, count_spelled};
+ghost use Rattle.report_text.specs.Fields.{value_read};
+ghost use Rattle.report_text.specs.Readings.{Reads, left};
+
+use crate::fault::TextFault;
+use crate::fields::{Rest, next_field};
+use arrayvec::ArrayString;
+use itoa::Buffer;
+use line_base::text;
+
+/// Adds a number in decimal, at most 20 digits.
+pub fn push_decimal<const N: usize>(out: &mut ArrayString<N>, number: u64)
+    requires { length out.old.bytes + 20 ≤ N }
+    ensures bytes { out.new.bytes ≡ out.old.bytes ++ decimal number }
+    ensures len { length out.new.bytes ≤ length out.old.bytes + 20 }
+{
+    let mut buffer = Buffer::new();
+    out.push_str(buffer.format(number));
+}
+
+/// Adds a channel's number in two decimal digits.
+pub(crate) fn push_channel<const N: usize>(out: &mut ArrayString<N>, channel: u8)
+    requires room { length out.old.bytes + 2 ≤ N }
+    requires channel { channel < 16 }
+    ensures bytes { out.new.bytes ≡ out.old.bytes ++ two_digits channel }
+    ensures len { length out.new.bytes ≡ length out.old.bytes + 2 }
+{
+    out.push(char::from(b'0' + channel / 10));
+    out.push(char::from(b'0' + channel % 10));
+}
+
+/// The value of a decimal digit, or `Number`.
+fn digit_of(byte: u8) -> Result<u8, TextFault>
+    ensures value { result ≡ digit_in byte }
+    ensures below { IfOk result (λ digit. digit < 10) }
+{
+    if byte >= b'0' && byte <= b'9' {
+        Ok(byte - b'0')
+    } else {
+        Err(TextFault::Number)
+    }
+}
+
+/// The channel, 0 to 15, of a field; `Number` where it isn't two decimal digits, `Range` above 15.
+#[tactic(auto, unfolding(crate::specs::Decimals::channel_in))]
+fn channel_of(field: &[u8]) -> Result<u8, TextFault>
+    ensures value { result ≡ channel_in field.now }
+    ensures below { IfOk result (λ channel. channel < 16) }
+{
+    match field {
+        [first, second] => {
+            let tens = digit_of(*first)?;
+            let ones = digit_of(*second)?;
+            let channel = 10 * tens + ones;
+            if channel < 16 {
+                Ok(channel)
+            } else {
+                Err(TextFault::Range)
+            }
+        }
+        _ => Err(TextFault::Number),
+    }
+}
+
+/// The number that decimal digits write, or `None` where it is 2^64 or more.
+fn value_of(digits: &[u8]) -> Option<u64>
+    ensures { SomeIff result (number_after 0 digits.now < 2 ^ 64) (number_after 0 digits.now) }
+{
+    let mut number: u64 = 0;
+    for digit in digits {
+        let value = u64::from(digit.saturating_sub(b'0'));
+        number = number.checked_mul(10)?.checked_add(value)?;
+    }
+    Some(number)
+}
+
+/// Whether a field begins with a zero that others follow.
+fn has_leading_zero(field: &[u8]) -> bool
+    ensures { result ≡ has_leading_zero field.now }
+{
+    match field {
+        [first, _, ..] => *first == b'0',
+        _ => false,
+    }
+}
+
+/// The number below 2^64 of a field; `Number` where it isn't decimal digits without a leading zero, `Range`
+/// from 2^64 on.
+#[tactic(auto, unfolding(crate::specs::Decimals::number_spelled))]
+fn number_of(field: &[u8]) -> Result<u64, TextFault>
+    ensures { result ≡ number_spelled field.now }
+{
+    text::number_of(field).ok_or(TextFault::Number)?;
+    if has_leading_zero(field) {
+        return Err(TextFault::Number);
+    }
+    value_of(field).ok_or(TextFault::Range)
+}
+
+/// The count of a field, 1 or more; the faults of a number, and `Range` for 0.
+#[tactic(auto, unfolding(crate::specs::Decimals::count_spelled))]
+fn count_of(field: &[u8]) -> Result<u64, TextFault>
+    ensures { result ≡ count_spelled field.now }
+{
+    let count = number_of(field)?;
+    if count == 0 {
+        return Err(TextFault::Range);
+    }
+    Ok(count)
+}
+
+/// The channel, 0 to 15, of the next field.
+#[tactic(auto, unfolding(crate::specs::Fields::value_read))]
+pub(crate) fn read_channel<'a>(rest: Rest<'a>) -> Result<(u8, Rest<'a>), TextFault>
+    ensures { Reads result (value_read channel_in (left rest.entry)) }
+{
+    let (field, rest) = next_field(rest)?;
+    Ok((channel_of(field)?, rest))
+}
+
+/// The number below 2^64 of the next field.
+#[tactic(auto, unfolding(crate::specs::Fields::value_read))]
+pub(crate) fn read_number<'a>(rest: Rest<'a>) -> Result<(u64, Rest<'a>), TextFault>
+    ensures { Reads result (value_read number_spelled (left rest.entry)) }
+{
+    let (field, rest) = next_field(rest)?;
+    Ok((number_of(field)?, rest))
+}
+
+/// The count of the next field, from 1 to 2^64 - 1.
+#[tactic(auto, unfolding(crate::specs::Fields::value_read))]
+pub(crate) fn read_count<'a>(rest: Rest<'a>) -> Result<(u64, Rest<'a>), TextFault>
+    ensures { Reads result (value_read count_spelled (left rest.entry)) }
+{
+    let (field, rest) = next_field(rest)?;
+    Ok((count_of(field)?, rest))
+}
