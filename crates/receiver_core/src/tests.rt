@@ -8,7 +8,7 @@ ghost use Rattle.receiver_core.specs.Tallies.{counts_as, lost_in};
 mod messages;
 
 use super::*;
-use line_base::{Edge, Item, Nibbles, Rule, SetupFault};
+use line_base::{Edge, Item, Nibbles, Rule, Sender, SetupFault};
 use sent_fast::{Fast, Layout};
 use sent_frame::{CrcForm, SentFrame, SentSetup};
 use std::alloc::{AllocError, Global};
@@ -53,19 +53,16 @@ fn secure(rt: &impl Abort) -> ChannelSetup
 /// The opening at the start, and falls so many ns after it, each with a rise 15,000 ns later. Fall number k,
 /// counted from 1, is edge 2k - 1 of them. All times are in ns.
 fn items(alloc: Global, start: u32, falls: &[u32]) -> Result<Vec<Item>, AllocError> {
-    let mut items = Vec::new(alloc);
-    let mut edge = Edge {
+    let sender = Sender {
         line: 0,
-        time: u64::from(start),
-        level: true,
+        low: 15_000,
     };
-    items.push(Item::Edge(edge))?;
-    for fall in falls {
-        for rise in [0, 15_000] {
-            edge.time = u64::from(start) + u64::from(*fall) + rise;
-            edge.level = !edge.level;
-            items.push(Item::Edge(edge))?;
-        }
+    let mut items = Vec::new(alloc);
+    items.push(Item::Edge(sender.opening(u64::from(start))))?;
+    for time in falls {
+        let (fall, rise) = sender.fall(u64::from(start) + u64::from(*time));
+        items.push(Item::Edge(fall))?;
+        items.push(Item::Edge(rise))?;
     }
     Ok(items)
 }

@@ -3,7 +3,7 @@
 ghost use Rattle.std.specs.Prelude.{◌≡◌};
 
 use super::*;
-use line_base::{Edge, Nibbles, Rule, SetupFault};
+use line_base::{Edge, Nibbles, Rule, Sender, SetupFault};
 use std::alloc::{AllocError, Global};
 use std::process::Abort;
 use std::test::Fail;
@@ -36,30 +36,28 @@ fn bad(place: u64, rule: Rule) -> SentStep {
 /// The reports of a line that opens high at 0 ns, falls at these times in ns and rises so many ns after
 /// each. Fall number k, counted from 1, is edge 2k - 1.
 fn reports(
-    alloc: Global,
+    rt: &HostRuntime,
     setup: SentSetup,
     falls: &[u32],
     low: u32,
-) -> Result<Vec<SentStep>, AllocError> {
-    let mut reader = SentReader::new(setup);
-    let mut reports = Vec::new(alloc);
-    let mut edge = Edge {
+) -> Result<Vec<SentStep>, Fail> {
+    let sender = Sender {
         line: 0,
-        time: 0,
-        level: true,
+        low: u64::from(low),
     };
+    let mut reader = SentReader::new(setup);
+    let mut reports = Vec::new(rt.alloc());
+    reader.push(0, sender.opening(0));
     let mut number: u64 = 0;
-    reader.push(number, edge);
-    for fall in falls {
-        for rise in [0, u64::from(low)] {
-            number = number.saturating_add(1);
-            edge.time = u64::from(*fall) + rise;
-            edge.level = !edge.level;
-            let step = reader.push(number, edge);
-            if step != SentStep::Nothing {
-                reports.push(step)?;
-            }
+    for time in falls {
+        let (fall, rise) = sender.fall(u64::from(*time));
+        number = number.saturating_add(1);
+        let step = reader.push(number, fall);
+        if step != SentStep::Nothing {
+            reports.push(step)?;
         }
+        number = number.saturating_add(1);
+        assert_eq!(rt; reader.push(number, rise), SentStep::Nothing, "a rise tells nothing");
     }
     Ok(reports)
 }
@@ -75,7 +73,7 @@ fn a_frame_is_good_where_its_crc_is_that_of_the_setup(rt: HostRuntime) -> Result
         (CrcForm::Legacy, &legacy_zeros, good(&rt, 19, 0, 0)),
     ];
     for (crc, falls, expected) in cases {
-        let found = reports(rt.alloc(), setup(&rt, false, crc), falls, 15_000)?;
+        let found = reports(&rt, setup(&rt, false, crc), falls, 15_000)?;
         assert_eq!(rt;
             found.as_slice(),
             [expected].as_slice(),
@@ -91,22 +89,22 @@ fn a_frame_is_good_where_its_crc_is_that_of_the_setup(rt: HostRuntime) -> Result
 fn an_edge_that_tells_nothing_is_passed(rt: HostRuntime) -> Result<(), Fail> {
     let mut reader = SentReader::new(setup(&rt, false, CrcForm::New));
     let mut left = Vec::new(rt.alloc());
-    let mut edge = Edge {
+    let sender = Sender {
         line: 0,
-        time: 0,
-        level: true,
+        low: 15_000,
     };
+    assert!(rt; !reader.passes(sender.opening(0)));
+    reader.push(0, sender.opening(0));
     let mut number: u64 = 0;
-    assert!(rt; !reader.passes(edge));
-    reader.push(number, edge);
-    for fall in ZEROS {
-        for rise in [0, 15_000] {
-            number = number.saturating_add(1);
-            edge.time = u64::from(fall) + rise;
-            edge.level = !edge.level;
-            if !reader.passes(edge) {
-                left.push((number, reader.push(number, edge)))?;
-            }
+    for time in ZEROS {
+        let (fall, rise) = sender.fall(u64::from(time));
+        number = number.saturating_add(1);
+        if !reader.passes(fall) {
+            left.push((number, reader.push(number, fall)))?;
+        }
+        number = number.saturating_add(1);
+        if !reader.passes(rise) {
+            left.push((number, reader.push(number, rise)))?;
         }
     }
     let expected = [
@@ -125,7 +123,7 @@ fn values_are_read_through_the_greatest_jitter(rt: HostRuntime) -> Result<(), Fa
         299_700, 434_700, 498_900, 564_300, 628_500, 693_900, 758_100, 823_500, 887_700, 941_100,
     ];
     let setup = setup(&rt, false, CrcForm::New);
-    let found = reports(rt.alloc(), setup, &falls, 12_000)?;
+    let found = reports(&rt, setup, &falls, 12_000)?;
     assert_eq!(rt; found.as_slice(), [good(&rt, 19, 15, 15)].as_slice());
     Ok(())
 }
@@ -156,7 +154,7 @@ fn a_pause_of_774_ticks_is_the_longest_and_one_of_56_may_start_falsely(
     ];
     for (falls, expected) in cases {
         let setup = setup(&rt, true, CrcForm::New);
-        let found = reports(rt.alloc(), setup, falls, 15_000)?;
+        let found = reports(&rt, setup, falls, 15_000)?;
         assert_eq!(rt; found.as_slice(), expected, "{falls:?}");
     }
     Ok(())
@@ -198,7 +196,7 @@ fn a_fault_loses_no_later_frame(rt: HostRuntime) -> Result<(), Fail> {
     ];
     for (falls, expected) in cases {
         let setup = setup(&rt, false, CrcForm::New);
-        let found = reports(rt.alloc(), setup, falls, 12_000)?;
+        let found = reports(&rt, setup, falls, 12_000)?;
         assert_eq!(rt; found.as_slice(), expected, "{falls:?}");
     }
     Ok(())

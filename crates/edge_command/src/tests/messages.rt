@@ -2,6 +2,7 @@
 
 use super::{CLEAN, MARKED, Trial, expect};
 use crate::Plain;
+use line_base::Sender;
 use std::alloc::{AllocError, Global};
 use std::process::Abort;
 
@@ -22,6 +23,10 @@ struct Case<'a> {
 
 /// The rows of the frames, without a pause and at a tick of 3,000 ns, and the lines of the frames.
 fn texts_of(alloc: Global, case: &Case) -> Result<(String, String), AllocError> {
+    let sender = Sender {
+        line: 0,
+        low: 15_000,
+    };
     let mut rows = String::from_str(alloc, "0,0,1\n300000,0,0\n315000,0,1\n")?;
     let mut lines = String::new(alloc);
     let mut time = 300_000u64;
@@ -32,8 +37,8 @@ fn texts_of(alloc: Global, case: &Case) -> Result<(String, String), AllocError> 
         let check = if wrong { 18 } else { 17 };
         for ticks in [56, 12 + status, 12, 12, 12, 12, 12, 12, check] {
             time = time.saturating_add(3_000 * u64::from(ticks));
-            let rise = time.saturating_add(15_000);
-            write!(rows, "{time},0,0\n{rise},0,1\n")?;
+            let (fall, rise) = sender.fall(time);
+            write!(rows, "{},0,0\n{},0,1\n", fall.time, rise.time)?;
         }
         place = place.saturating_add(18);
         if wrong {

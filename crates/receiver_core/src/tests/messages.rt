@@ -4,7 +4,7 @@ ghost use Rattle.receiver_core.specs.Setups.{setup_fault_of};
 
 use super::{frame, gap, reports};
 use crate::{ChannelSetup, Report, Serial, What};
-use line_base::{Edge, Item};
+use line_base::{Item, Sender};
 use sent_fast::Layout;
 use sent_frame::{CrcForm, SentSetup};
 use std::alloc::{AllocError, Global};
@@ -39,6 +39,7 @@ fn channel(rt: &impl Abort, serial: Serial) -> ChannelSetup
 /// Items of line 0, frame after frame.
 #[derive(Drop)]
 struct Frames {
+    sender: Sender,
     items: Vec<Item>,
     /// When the last fall was, in ns.
     time: u64,
@@ -47,29 +48,27 @@ struct Frames {
 impl Frames {
     /// The opening and the first fall.
     fn begin(alloc: Global) -> Result<Frames, AllocError> {
+        let sender = Sender {
+            line: 0,
+            low: 15_000,
+        };
         let mut frames = Frames {
+            sender,
             items: Vec::new(alloc),
             time: 0,
         };
-        frames.add_edge(0, true)?;
+        frames.items.push(Item::Edge(sender.opening(0)))?;
         frames.add_pulse(100)?;
         Ok(frames)
-    }
-
-    fn add_edge(&mut self, time: u64, level: bool) -> Result<(), AllocError> {
-        self.items.push(Item::Edge(Edge {
-            line: 0,
-            time,
-            level,
-        }))?;
-        Ok(())
     }
 
     /// Adds the fall that ends a pulse of so many ticks, and a rise 15,000 ns later.
     fn add_pulse(&mut self, ticks: u8) -> Result<(), AllocError> {
         self.time = self.time.saturating_add(3_000 * u64::from(ticks));
-        self.add_edge(self.time, false)?;
-        self.add_edge(self.time.saturating_add(15_000), true)
+        let (fall, rise) = self.sender.fall(self.time);
+        self.items.push(Item::Edge(fall))?;
+        self.items.push(Item::Edge(rise))?;
+        Ok(())
     }
 
     /// Adds a frame of this status, six zeros and a last pulse of so many ticks.
