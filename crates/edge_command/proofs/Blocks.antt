@@ -11,7 +11,7 @@ use Rattle.edge_command.proofs.TakeBytes.{none-took}
 use Rattle.edge_command.proofs.EdgeLists.{fault-stays, edges-stay, edges-front}
 use Rattle.edge_command.specs.declared.run.Run.{Run}
 use Rattle.edge_command.specs.Channels.{Decoding, text_so_far}
-use Rattle.edge_command.specs.Writes.{Written, GrowsAlong}
+use Rattle.edge_command.specs.Writes.{Written, GrowsAlong, GrowsTowards}
 use Rattle.edge_command.specs.Runs.{decoding_of, written_by, Reads, StoppedAt, TookBytes}
 use Rattle.edge_command.proofs.Writing.{grows-twice, grows-cut, cut-longer, grows-nothing}
 use Rattle.edge_command.proofs.Fronts.{text-front}
@@ -39,6 +39,13 @@ pub stopped-longer : (decoding : Decoding) (why : Stop) (a b : Written) (earlier
 stopped-longer decoding (stop.Line number fault) a b earlier bytes more (found, grows) =
     (fault-stays bytes more (number, fault) found, subst (λ (es : List Edge). GrowsAlong a b (text_so_far decoding (edges_of earlier)) (text_so_far decoding es)) (sym (edges-stay bytes more (number, fault) found)) grows)
 stopped-longer decoding stop.Put a b earlier bytes more cut = cut-longer a b.got (text_so_far decoding (edges_of earlier)) (text_so_far decoding (edges_of bytes)) (text_so_far decoding (edges_of (bytes ++ more))) cut (bytes-front decoding bytes more)
+
+-- a put that fails at bytes at the front of a block fails in the block
+pub cut-in : (decoding : Decoding) (old : Written) (got : Option (List ℕ)) (bytes block : List ℕ) (count : ℕ) → GrowsTowards old got (text_so_far decoding (edges_of bytes)) (text_so_far decoding (edges_of (bytes ++ take count block)))
+    → GrowsTowards old got (text_so_far decoding (edges_of bytes)) (text_so_far decoding (edges_of (bytes ++ block)))
+cut-in decoding old got bytes block count cut =
+    subst (λ (bs : List ℕ). GrowsTowards old got (text_so_far decoding (edges_of bytes)) (text_so_far decoding (edges_of bs))) (append_assoc bytes (take count block) (drop count block) ∙ ap (λ bs. bytes ++ bs) (take-append-drop count block))
+    (cut-longer old got (text_so_far decoding (edges_of bytes)) (text_so_far decoding (edges_of (bytes ++ take count block))) (text_so_far decoding (edges_of ((bytes ++ take count block) ++ drop count block))) cut (bytes-front decoding (bytes ++ take count block) (drop count block)))
 
 -- what stopped a run counts from earlier bytes too
 pub stopped-earlier : (decoding : Decoding) (why : Stop) (a b c : Written) (first earlier bytes : List ℕ) → GrowsAlong a b (text_so_far decoding (edges_of first)) (text_so_far decoding (edges_of earlier))
@@ -124,6 +131,21 @@ pub run-sliced : (old mid new : Run) (a b : Option (List ℕ)) (f h : ℕ) (bloc
 run-sliced old mid new a b f h block rest count before channels told text stands quiet =
     subst (λ (bs : List ℕ). BlockBefore old new a b f h block bs) (sym (take_all (length rest - count) (drop count rest) (omega (arith, length-drop count rest))))
     (run-behind old mid new a b f h block rest count before channels told text stands quiet)
+
+-- a row at the front of the rest of a block is taken, with the rest as a slice gives it
+pub row-sliced : (old mid new : Run) (a b c : Option (List ℕ)) (f h k : ℕ) (block rest : List ℕ) (count : ℕ) → BlockBefore old mid a b f h block rest → BlockSoFar mid new b c h k (take count rest)
+    → BlockBefore old new a c f k block (take (length rest - count) (drop count rest))
+row-sliced old mid new a b c f h k block rest count before taken =
+    let parted : BlockBefore old mid a b f h block (take count rest ++ drop count rest) = subst (λ (bs : List ℕ). BlockBefore old mid a b f h block bs) (sym (take-append-drop count rest)) before in
+    subst (λ (bs : List ℕ). BlockBefore old new a c f k block bs) (sym (take_all (length rest - count) (drop count rest) (omega (arith, length-drop count rest))))
+    (less-left old mid new a b c f h k block (take count rest) (drop count rest) parted taken)
+
+-- none is
+pub none-sliced : (old mid new : Run) (a b c : Option (List ℕ)) (f h k : ℕ) (block rest : List ℕ) (count : ℕ) → count ≡ 0 → BlockBefore old mid a b f h block rest → BlockSoFar mid new b c h k (take count rest)
+    → BlockBefore old new a c f k block rest
+none-sliced old mid new a b c f h k block rest count none before taken =
+    let nothing : BlockSoFar mid new b c h k [] = subst (λ (n : ℕ). BlockSoFar mid new b c h k (take n rest)) none taken in
+    less-left old mid new a b c f h k block [] rest before nothing
 
 -- a whole block is taken
 pub none-left : (old new : Run) (a b : Option (List ℕ)) (f h : ℕ) (block rest : List ℕ) → BlockBefore old new a b f h block rest → length rest ≡ 0 → BlockSoFar old new a b f h block

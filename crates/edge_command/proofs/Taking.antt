@@ -89,6 +89,11 @@ marked-parts channels channel others edges parts counted =
 pub follow-parts : (channels : List Channel) (channel : Channel) (others : List Channel) (edges : List Edge) → channels ≡ channel ∷ others → AllFollow channels edges → Follows channel edges × AllFollow others edges
 follow-parts channels channel others edges parts follow = subst (λ (cs : List Channel). AllFollow cs edges) parts follow
 
+-- no channel is left to take them
+pub none-follow : (channels : List Channel) (edges : List Edge) → length channels ≡ 0 → AllFollow channels edges
+none-follow [] edges none = tt
+none-follow (channel ∷ channels) edges none = absurd (omega arith)
+
 pub counted-parts : (channels : List Channel) (channel : Channel) (others : List Channel) (edges : List Edge) → channels ≡ channel ∷ others → AllCounted channels edges → AllCounted others edges
 counted-parts channels channel others edges parts counted = let all : AllCounted (channel ∷ others) edges = subst (λ (cs : List Channel). AllCounted cs edges) parts counted in all.1
 

@@ -23,7 +23,7 @@ PartCounted (Ok done) before now = now ≡ before
 PartCounted (Err why) before now = OutputCounted why before now
 
 -- the output's count rose where a put failed, and else stood still
-abbrev pub StopCounted : Result (Unit {0}) Stop → ℕ → ℕ → Type 0
+abbrev pub StopCounted : {A : Type 0} → Result A Stop → ℕ → ℕ → Type 0
 StopCounted (Err stop.Put) before now = (before ≤ now) × Rose before now
 StopCounted (Err (stop.Line number fault)) before now = now ≡ before
-StopCounted (Ok done) before now = now ≡ before
+StopCounted (Ok taken) before now = now ≡ before

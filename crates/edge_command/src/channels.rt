@@ -113,7 +113,7 @@ fn tell<K: Sink>(
 }
 
 /// Hands the next edge of the list to the channel with this number, and writes the lines of what it reports.
-#[inline]
+#[inline(always)]
 fn take_edge_on<K: Sink>(
     channel: &mut Channel,
     told: bool,
@@ -170,7 +170,7 @@ fn take_end_on<K: Sink>(
 
 /// Hands the next edge of the list to each of these channels in order, of which the first has this number,
 /// and writes the lines of what they report.
-pub fn take_edge<K: Sink>(
+fn take_edge_from<K: Sink>(
     channels: &mut [Channel],
     told: bool,
     number: u8,
@@ -196,7 +196,43 @@ pub fn take_edge<K: Sink>(
         None => Ok(()),
         Some((channel, others)) => {
             take_edge_on(channel, told, number, edge, reports, text, out)?;
-            take_edge(others, told, number + 1, edge, reports, text, out)
+            take_edge_from(others, told, number + 1, edge, reports, text, out)
+        }
+    }
+}
+
+/// Hands the next edge of the list to each of these channels, at most 16, in order, and writes the lines of
+/// what they report. Most runs have one channel: it is looked at without a call.
+#[inline(always)]
+pub fn take_edge<K: Sink>(
+    channels: &mut [Channel],
+    told: bool,
+    edge: Edge,
+    reports: &mut ArrayVec<Report, 8>,
+    text: &mut Gathered,
+    out: &mut K,
+) -> Result<(), Failed>
+    requires few { length channels.old ≤ 16 }
+    requires in_range { edge.time ≤ 10 ^ 15 }
+    requires empty { reports.old.items ≡ [] }
+    requires follow { (edges : List Edge) × AllFollow channels.old edges × (length edges < 2 ^ 60) }
+    ensures setups { setups_of channels.new ≡ setups_of channels.old }
+    ensures empty { reports.new.items ≡ [] }
+    ensures follow { OnOk result ((edges : List Edge) → AllFollow channels.old edges → AllFollow channels.new (edges ++ edge ∷ [])) }
+    ensures written { OnOk result ((edges : List Edge) → AllFollow channels.old edges
+        → Takes (record { got = K.got out.old; gathered = text.old }) (record { got = K.got out.new; gathered = text.new }) (told_lines told (edge_lines 0 (setups_of channels.old) edges edge))) }
+    ensures cut { OnErr result ((edges : List Edge) → AllFollow channels.old edges
+        → TakesFront (record { got = K.got out.old; gathered = text.old }) (K.got out.new) (told_lines told (edge_lines 0 (setups_of channels.old) edges edge))) }
+    ensures cause { HasCause (K.faults out.old) (K.faults out.new) result }
+{
+    match channels.split_first_mut() {
+        None => Ok(()),
+        Some((channel, others)) => {
+            take_edge_on(channel, told, 0, edge, reports, text, out)?;
+            if others.is_empty() {
+                return Ok(());
+            }
+            take_edge_from(others, told, 1, edge, reports, text, out)
         }
     }
 }

@@ -1,5 +1,5 @@
 //! A run over bytes: each byte is read, and what it ends is handed to the channels and told.
-ghost use Rattle.std.specs.Prelude.{◌≡◌, ◌+◌, ◌^◌, ◌<◌, ◌≤◌, ◌++◌, [], ◌∷◌, List, ℕ, Option, None, All, MatchOption, length, OnErr, OnOk, IfErr};
+ghost use Rattle.std.specs.Prelude.{◌≡◌, ◌+◌, ◌^◌, ◌<◌, ◌≤◌, ◌++◌, [], ◌∷◌, List, ℕ, Option, None, All, MatchOption, length, take, OnErr, OnOk, IfErr, IfOk};
 ghost use Rattle.line_base.specs.Causes.{HasCause};
 ghost use Rattle.line_base.specs.declared.edge.Edge.{Edge};
 ghost use Rattle.edge_command.specs.Channels.{lines_behind, text_so_far, told_lines, whole_text};
@@ -45,35 +45,34 @@ pub struct Run {
     ghost empty: { reports.items ≡ [] },
 }
 
-/// Hands the edges of a row to the channels, one after another.
+/// Hands an edge and the others of its row to the channels, one after another.
 #[inline]
-fn take_row<K: Sink>(
+fn take_edges<K: Sink>(
     channels: &mut [Channel],
     told: bool,
-    mut row: EdgesLeft,
+    edge: Edge,
+    mut others: EdgesLeft,
     reports: &mut ArrayVec<Report, 8>,
     text: &mut Gathered,
     out: &mut K,
 ) -> Result<(), Failed>
     requires few { length channels.old ≤ 16 }
-    requires in_range { All (λ edge. edge.time ≤ 10 ^ 15) row }
+    requires in_range { All (λ edge. edge.time ≤ 10 ^ 15) (edge ∷ others) }
     requires empty { reports.old.items ≡ [] }
-    requires follow { (edges : List Edge) × AllFollow channels.old edges × (length edges + length row < 2 ^ 60) }
+    requires follow { (edges : List Edge) × AllFollow channels.old edges × (length edges + length (edge ∷ others) < 2 ^ 60) }
     ensures setups { setups_of channels.new ≡ setups_of channels.old }
     ensures empty { reports.new.items ≡ [] }
-    ensures follow { OnOk result ((edges : List Edge) → AllFollow channels.old edges → AllFollow channels.new (edges ++ row)) }
+    ensures follow { OnOk result ((edges : List Edge) → AllFollow channels.old edges → AllFollow channels.new (edges ++ edge ∷ others)) }
     ensures written { OnOk result ((edges : List Edge) → AllFollow channels.old edges
-        → Takes (record { got = K.got out.old; gathered = text.old }) (record { got = K.got out.new; gathered = text.new }) (told_lines told (lines_behind (setups_of channels.old) edges row))) }
+        → Takes (record { got = K.got out.old; gathered = text.old }) (record { got = K.got out.new; gathered = text.new }) (told_lines told (lines_behind (setups_of channels.old) edges (edge ∷ others)))) }
     ensures cut { OnErr result ((edges : List Edge) → AllFollow channels.old edges
-        → TakesFront (record { got = K.got out.old; gathered = text.old }) (K.got out.new) (told_lines told (lines_behind (setups_of channels.old) edges row))) }
+        → TakesFront (record { got = K.got out.old; gathered = text.old }) (K.got out.new) (told_lines told (lines_behind (setups_of channels.old) edges (edge ∷ others)))) }
     ensures cause { HasCause (K.faults out.old) (K.faults out.new) result }
 {
-    match row.take() {
+    take_edge(channels, told, edge, reports, text, out)?;
+    match others.take() {
         None => Ok(()),
-        Some(edge) => {
-            take_edge(channels, told, 0, edge, reports, text, out)?;
-            take_row(channels, told, row, reports, text, out)
-        }
+        Some(next) => take_edges(channels, told, next, others, reports, text, out),
     }
 }
 
@@ -116,14 +115,66 @@ impl Run {
             → GrowsTowards (written_by self.old (K.got out.old)) (K.got out.new) (text_so_far (decoding_of self.old) edges) (text_so_far (decoding_of self.old) (edges ++ row.now))) }
         ensures cause { HasCause (K.faults out.old) (K.faults out.new) result }
     {
-        take_row(
+        let mut others = row.edges();
+        let Some(edge) = others.take() else {
+            return Ok(());
+        };
+        take_edges(
             self.channels.as_mut_slice(),
             self.told,
-            row.edges(),
+            edge,
+            others,
             &mut self.reports,
             &mut self.text,
             out,
         )
+    }
+
+    /// Hands an edge to the channels.
+    #[inline(always)]
+    fn put_edge<K: Sink>(&mut self, edge: Edge, out: &mut K) -> Result<(), Failed>
+        requires in_range { edge.time ≤ 10 ^ 15 }
+        requires follow { (edges : List Edge) × AllFollow self.old.channels.items edges × (length edges < 2 ^ 60) }
+        ensures decoding { decoding_of self.new ≡ decoding_of self.old }
+        ensures lines { self.new.lines ≡ self.old.lines }
+        ensures follow { OnOk result ((edges : List Edge) → AllFollow self.old.channels.items edges → AllFollow self.new.channels.items (edges ++ edge ∷ [])) }
+        ensures written { OnOk result ((edges : List Edge) → AllFollow self.old.channels.items edges
+            → GrowsAlong (written_by self.old (K.got out.old)) (written_by self.new (K.got out.new)) (text_so_far (decoding_of self.old) edges) (text_so_far (decoding_of self.old) (edges ++ edge ∷ []))) }
+        ensures cut { OnErr result ((edges : List Edge) → AllFollow self.old.channels.items edges
+            → GrowsTowards (written_by self.old (K.got out.old)) (K.got out.new) (text_so_far (decoding_of self.old) edges) (text_so_far (decoding_of self.old) (edges ++ edge ∷ []))) }
+        ensures cause { HasCause (K.faults out.old) (K.faults out.new) result }
+    {
+        take_edge(
+            self.channels.as_mut_slice(),
+            self.told,
+            edge,
+            &mut self.reports,
+            &mut self.text,
+            out,
+        )
+    }
+
+    /// Takes the plain row that stands whole at the front of a block, writes the lines of its edge, and gives
+    /// how many bytes it has; 0 where none is taken.
+    #[inline(always)]
+    fn take_row<K: Sink>(&mut self, block: &[u8], out: &mut K) -> Result<usize, Stop>
+        requires { (bytes : List ℕ) × Reads self.old bytes }
+        ensures decoding { decoding_of self.new ≡ decoding_of self.old }
+        ensures fits { IfOk result (λ count. count ≤ length block.now) }
+        ensures took { IfOk result (λ count. (bytes : List ℕ) → Reads self.old bytes
+            → TookBytes self.old self.new (K.got out.old) (K.got out.new) bytes (bytes ++ take count block.now)) }
+        ensures stopped { IfErr result (λ why. (bytes : List ℕ) → Reads self.old bytes
+            → StoppedAt (decoding_of self.old) why (written_by self.old (K.got out.old)) (written_by self.new (K.got out.new)) bytes (bytes ++ block.now)) }
+        ensures output { StopCounted result (K.faults out.old) (K.faults out.new) }
+    {
+        let (count, edge) = self.lines.take_row(block);
+        let Some(edge) = edge else {
+            return Ok(count);
+        };
+        match self.put_edge(edge, out) {
+            Ok(()) => Ok(count),
+            Err(Failed) => Err(Stop::Put),
+        }
     }
 
     /// Takes the next byte, and writes the lines of what it ends.
@@ -150,7 +201,8 @@ impl Run {
         }
     }
 
-    /// Takes the bytes of a block, and writes the lines of what each ends before the next is looked at.
+    /// Takes the bytes of a block, plain rows whole and others byte by byte, and writes the lines of what each row
+    /// ends before the next is looked at.
     fn take_block<K: Sink>(&mut self, block: &[u8], out: &mut K) -> Result<(), Stop>
         requires { (bytes : List ℕ) × Reads self.old bytes }
         ensures decoding { decoding_of self.new ≡ decoding_of self.old }
@@ -162,8 +214,13 @@ impl Run {
     {
         let mut rest = block;
         'bytes: while !rest.is_empty() {
-            let count = self.lines.take_run(rest);
-            rest = &rest[count..];
+            let count = self.take_row(rest, out)?;
+            if count > 0 {
+                rest = &rest[count..];
+                continue 'bytes;
+            }
+            let run = self.lines.take_run(rest);
+            rest = &rest[run..];
             if let Some((byte, others)) = rest.split_first() {
                 self.take_byte(*byte, out)?;
                 rest = others;

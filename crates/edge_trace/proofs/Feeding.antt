@@ -141,6 +141,13 @@ module _ (old : EdgeReader) (now : State) (seen : List ℕ) (going : GoesOn old 
         ∙ ap (λ answers. answers_of seen ++ answers) (any_number (1 + length (ended_lines seen)) (content_read going.standing (without_cr (open_line seen))) ∙ ap answers_of_read (sym same_read) ∙ sym ends.answered);
   }
 
+  pub lf_is_behind : (new : EdgeReader) → length old.line < old.left → IsBehind new (content_read going.standing (without_cr old.line)) → new.line ≡ [] → new.ended ≡ min (old.ended + 1) 18446744073709551615 → new.left ≡ old.left - (length old.line + 1) → StandsFor new (seen ++ 10 ∷ [])
+  lf_is_behind new some behind line_is ended_is left_is = lf_stands new (content_read going.standing (without_cr (open_line seen))) some refl (subst (IsBehind new) same_read behind) line_is ended_is left_is
+
+  pub lf_answers : length old.line < old.left → answers_of (seen ++ 10 ∷ []) ≡ answers_of seen ++ answers_of_read (content_read going.standing (without_cr old.line))
+  lf_answers some = answers_more seen (seen ++ 10 ∷ []) _ (ends_line seen going.standing going.is_open (room some))
+      ∙ ap (λ answers. answers_of seen ++ answers) (any_number (1 + length (ended_lines seen)) (content_read going.standing (without_cr (open_line seen))) ∙ ap answers_of_read (sym same_read))
+
   pub takes_lf : (new : EdgeReader) (byte : ℕ) (result : Option (Result Row LineFault)) → byte ≡ 10 → length old.line < old.left → EndsLine new (content_read going.standing (without_cr old.line)) result → new.line ≡ [] → new.ended ≡ min (old.ended + 1) 18446744073709551615 → new.left ≡ old.left - (length old.line + 1) → Takes new seen byte result
   takes_lf new byte result lf some ends line_is ended_is left_is = subst (λ (b : ℕ). Takes new seen b result) (sym lf) (takes_lf_itself new result some ends line_is ended_is left_is)
 

@@ -22,3 +22,5 @@ pub mod OrderlyItems
 pub mod Times
 pub mod ReadsBack
 pub mod WrittenEdges
+pub mod WholeLines
+pub mod PlainFronts

@@ -16,6 +16,11 @@ answers_in None = []
 answers_in (Some (Ok row)) = Ok row.edges ∷ []
 answers_in (Some (Err fault)) = Err fault ∷ []
 
+-- the answers of a row that is this edge, if it is one
+abbrev pub answers_with : Option Edge → List (Result (List Edge) LineFault)
+answers_with None = []
+answers_with (Some edge) = Ok (edge ∷ []) ∷ []
+
 -- these bytes have no fault, and the list has come so far behind the lines that ended
 pub record IsOpen (bytes : List ℕ) (standing : Standing) : Type 0 where
   pub within : length bytes ≤ input_limit

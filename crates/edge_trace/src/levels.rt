@@ -20,6 +20,19 @@ fn changes(before: Option<bool>, level: bool) -> bool
     }
 }
 
+/// Whether what a narrow row says is an edge. Keeps its level.
+#[inline(always)]
+pub(crate) fn is_edge(edge: Edge, levels: &mut Levels) -> bool
+    requires { edge.line ≤ 15 }
+    ensures told { filter (λ row. is_new (slice_index_or levels.old row.line None) row.level) (edge ∷ []) ≡ (if result then edge ∷ [] else []) }
+    ensures levels { (line : ℕ) → slice_index_or levels.new line None ≡ (if edge.line == line then Some edge.level else slice_index_or levels.old line None) }
+{
+    let line = usize::from(edge.line);
+    let told = changes(levels[line], edge.level);
+    levels[line] = Some(edge.level);
+    told
+}
+
 /// Adds what a narrow row says, if it is an edge, and keeps its level.
 #[inline(always)]
 pub(crate) fn keep_level(edge: Edge, levels: &mut Levels, edges: &mut RowEdges)
@@ -28,11 +41,9 @@ pub(crate) fn keep_level(edge: Edge, levels: &mut Levels, edges: &mut RowEdges)
     ensures edges { edges.new ≡ filter (λ row. is_new (slice_index_or levels.old row.line None) row.level) (edge ∷ []) }
     ensures levels { (line : ℕ) → slice_index_or levels.new line None ≡ (if edge.line == line then Some edge.level else slice_index_or levels.old line None) }
 {
-    let line = usize::from(edge.line);
-    if changes(levels[line], edge.level) {
+    if is_edge(edge, levels) {
         edges.push(edge);
     }
-    levels[line] = Some(edge.level);
 }
 
 /// Adds the edges of a wide row whose lines had these levels before, and keeps its levels.

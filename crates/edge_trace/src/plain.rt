@@ -1,13 +1,17 @@
 //! Plain rows: digits, digits and a level with commas between them, and no blanks. Nearly all narrow rows
 //! are plain, so these are read in one pass; any other row is judged field by field.
 ghost use Rattle.std.specs.Prelude.{◌≤◌, IfSome};
-ghost use Rattle.edge_trace.specs.PlainRows.{BeginsWithNumber, SpellsEdge};
+ghost use Rattle.edge_trace.specs.PlainRows.{BeginsWithNumber, SpellsEdge, IsPlainFront};
 
 use crate::digits::level_of;
 use line_base::Edge;
 
 /// The most bytes of a number of 16 digits and its comma. Such a number fits 64 bits.
 const NUMBER_ROOM: usize = 17;
+
+/// The most bytes of a plain row with its LF, and more. Where a text has so many bytes, the loops over digits
+/// have a fixed length.
+const FRONT_ROOM: usize = 40;
 
 /// The digit `0`. Any byte that is no digit is more than 9 above it, or wraps to more.
 const ZERO: u64 = 48;
@@ -49,4 +53,28 @@ pub(crate) fn plain_row(content: &[u8]) -> Option<Edge>
         time,
         level,
     })
+}
+
+/// The edge that a plain row spells which stands whole at the front of a text, and how many bytes stand before
+/// its LF. A text of fewer than 40 bytes is left to be read by the line.
+#[inline(always)]
+pub(crate) fn plain_front(text: &[u8]) -> Option<(Edge, usize)>
+    ensures front { IfSome result (λ found. IsPlainFront text.now found.0 found.1) }
+    ensures line { IfSome result (λ found. found.0.line ≤ 15) }
+{
+    if text.len() < FRONT_ROOM {
+        return None;
+    }
+    let (time, rest) = number_before_comma(text)?;
+    let (line, last) = number_before_comma(rest)?;
+    if line > 15 || last.len() < 2 || last[1] != b'\n' {
+        return None;
+    }
+    let level = level_of(&last[..1])?;
+    let edge = Edge {
+        line: line as u8,
+        time,
+        level,
+    };
+    Some((edge, text.len() - last.len() + 1))
 }

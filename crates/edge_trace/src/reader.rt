@@ -2,16 +2,19 @@
 //!
 //! It keeps the bytes of the unfinished line, and judges the line at its end. Most bytes are only put
 //! behind the others: while the line has room, nothing else is looked at.
-ghost use Rattle.std.specs.Prelude.{◌≡◌, ℕ, ◌≤◌, IsTrue};
+ghost use Rattle.std.specs.Prelude.{◌≡◌, ℕ, ◌≤◌, IsTrue, IfSome};
 ghost use Rattle.edge_trace.specs.Readings.{is_in_range};
 
-use crate::levels::Levels;
+use crate::form::Form;
+use crate::levels::{Levels, is_edge};
 use crate::line_bytes::{LINE_LIMIT, LineBytes};
 use crate::lines::read_content;
+use crate::plain::plain_front;
 use crate::row::{Row, RowEdges};
+use crate::stamps::MAX_TIME;
 use crate::state::State;
 use crate::texts::{content, length_before};
-use line_base::LineFault;
+use line_base::{Edge, LineFault};
 
 /// How many bytes of an input may stand in lines: 2^36 - 1.
 pub const INPUT_LIMIT: u64 = 68_719_476_735;
@@ -39,13 +42,16 @@ pub struct EdgeReader {
 }
 
 impl EdgeReader {
-    ghost use Rattle.std.specs.Prelude.{◌<◌, ◌+◌, ◌-◌, ◌⊎◌, min, List, [], ◌∷◌, ◌++◌, length, take, Option, None, Some, Err};
+    ghost use Rattle.std.specs.Prelude.{◌<◌, ◌+◌, ◌-◌, ◌^◌, ◌==◌, ◌⊎◌, min, List, [], ◌∷◌, ◌++◌, length, take, filter, slice_index_or, Option, None, Some, Err, if◌then◌else◌};
+    ghost use Rattle.std.specs.Option.{option_to_list};
     ghost use Rattle.line_base.specs.declared.faults.LineFault.{LineFault as Fault};
     ghost use Rattle.edge_trace.specs.Lines.{without_cr};
-    ghost use Rattle.edge_trace.specs.EdgeLists.{Standing, content_read};
+    ghost use Rattle.edge_trace.specs.EdgeLists.{Standing, content_read, is_new};
+    ghost use Rattle.edge_trace.specs.declared.form.Form.TheVariants as form;
+    ghost use Rattle.edge_trace.specs.declared.state.State.TheVariants as state;
     ghost use Rattle.edge_trace.specs.Limits.{fault_of, answers_of, whole_fault_of, whole_answers_of, line_number_of, last_line};
     ghost use Rattle.edge_trace.specs.Readings.{IsAt};
-    ghost use Rattle.edge_trace.specs.Readers.{answers_in, StandsFor, GoesOn, HasEnded, Takes, EndsLine, IsLongest};
+    ghost use Rattle.edge_trace.specs.Readers.{answers_in, answers_with, StandsFor, GoesOn, HasEnded, Takes, EndsLine, IsLongest};
 
     /// A reader of no bytes.
     pub fn new() -> EdgeReader
@@ -91,6 +97,53 @@ impl EdgeReader {
         let count = length_before(block, b'\n', room);
         self.line.extend(&block[..count]);
         count
+    }
+
+    /// Takes the plain row in ns that stands whole at the front of a block, with its LF, and gives how many
+    /// bytes it has and its edge, if it is one. It takes 0 bytes where there is none, where the list isn't of
+    /// narrow rows in ns, where a line is begun, and where the row isn't fault-free: those bytes are for
+    /// `feed` and `take_run`. It also leaves a row in the last 40 bytes of a block to them.
+    #[inline(always)]
+    pub fn take_row(&mut self, block: &[u8]) -> (usize, Option<Edge>)
+        ensures fits { result.0 ≤ length block.now }
+        ensures in_range { IfSome result.1 (λ edge. edge.time ≤ 10 ^ 15) }
+        ensures stands { (seen : List ℕ) → StandsFor self.old seen → StandsFor self.new (seen ++ take result.0 block.now) }
+        ensures grows { (seen : List ℕ) → StandsFor self.old seen → answers_of (seen ++ take result.0 block.now) ≡ answers_of seen ++ answers_with result.1 }
+        ensures ended { (number : ℕ) → HasEnded self.old number → (result.0 ≡ 0) × (result.1 ≡ None) × HasEnded self.new number }
+    {
+        if self.line.len() > 0 {
+            return (0, None);
+        }
+        let Some(State::Rows(Form::Narrow, before)) = self.state else {
+            return (0, None);
+        };
+        let Some((edge, count)) = plain_front(block) else {
+            return (0, None);
+        };
+        if edge.time < before || edge.time > MAX_TIME || count >= self.room {
+            return (0, None);
+        }
+        (count + 1, self.keep_row(edge, count))
+    }
+
+    /// Begins the next line behind a narrow row of so many bytes. Gives its edge, if it is one.
+    #[inline(always)]
+    fn keep_row(&mut self, edge: Edge, count: usize) -> Option<Edge>
+        requires line { edge.line ≤ 15 }
+        requires time { edge.time ≤ 10 ^ 15 }
+        ensures state { self.new.state ≡ Some (state.Rows form.Narrow edge.time) }
+        ensures room { self.new.room ≡ min 512 self.new.left }
+        ensures line { self.new.line ≡ [] }
+        ensures number { self.new.ended ≡ min (self.old.ended + 1) 18446744073709551615 }
+        ensures left { self.new.left ≡ self.old.left - (count + 1) }
+        ensures edges { filter (λ row. is_new (slice_index_or self.old.levels row.line None) row.level) (edge ∷ []) ≡ option_to_list result }
+        ensures same { IfSome result (λ told. told ≡ edge) }
+        ensures levels { (line : ℕ) → slice_index_or self.new.levels line None ≡ (if edge.line == line then Some edge.level else slice_index_or self.old.levels line None) }
+    {
+        let told = is_edge(edge, &mut self.levels);
+        self.left = self.left.saturating_sub(count as u64).saturating_sub(1);
+        self.begin_line(State::Rows(Form::Narrow, edge.time));
+        if told { Some(edge) } else { None }
     }
 
     /// Ends the input: an unfinished last line counts as ended. This is the last answer.

@@ -11,15 +11,15 @@ use Rattle.line_base.specs.Texts.{cut_at}
 pub record CutSoFar (mark : ℕ) (text : List ℕ) (i : ℕ) : Type 0 where
   pub whole : cut_at mark text ≡ (take i text ++ (cut_at mark (drop i text)).0, (cut_at mark (drop i text)).1)
 
-cut_at_mark : (mark byte : ℕ) (bytes : List ℕ) → byte ≡ mark → cut_at mark (byte ∷ bytes) ≡ ([], Some bytes)
+pub cut_at_mark : (mark byte : ℕ) (bytes : List ℕ) → byte ≡ mark → cut_at mark (byte ∷ bytes) ≡ ([], Some bytes)
 unfolding cut_at
 cut_at_mark mark byte bytes e = rw (eq-eqb byte mark e) refl
 
-cut_at_other : (mark byte : ℕ) (bytes : List ℕ) → (byte ≡ mark → ⊥) → cut_at mark (byte ∷ bytes) ≡ (byte ∷ (cut_at mark bytes).0, (cut_at mark bytes).1)
+pub cut_at_other : (mark byte : ℕ) (bytes : List ℕ) → (byte ≡ mark → ⊥) → cut_at mark (byte ∷ bytes) ≡ (byte ∷ (cut_at mark bytes).0, (cut_at mark bytes).1)
 unfolding cut_at
 cut_at_other mark byte bytes ne = rw (ne_eqb byte mark ne) refl
 
-cut_at_nil : (mark : ℕ) → cut_at mark [] ≡ ([], None)
+pub cut_at_nil : (mark : ℕ) → cut_at mark [] ≡ ([], None)
 unfolding cut_at
 cut_at_nil mark = refl
 

@@ -5,7 +5,7 @@ use Rattle.edge_command.specs.Writes.{Takes}
 use Rattle.edge_command.proofs.Answers.{on-ok, on-err}
 use Rattle.edge_command.proofs.Writing.{takes-nothing}
 use Rattle.edge_command.proofs.Taking.{both-written, second-cut, first-cut, none-left, follow-parts, edge-parts, edge-none}
-use Rattle.edge_command.proofs.channels.+take_edge.Goals as goal
+use Rattle.edge_command.proofs.channels.+take_edge_from.Goals as goal
 
 pub returns-in-None-clause-written : goal.returns-in-None-clause-written
 returns-in-None-clause-written g t c = λ edges before.
@@ -22,14 +22,14 @@ returns-in_err-take_edge_on-in-Some-clause-cut g t c =
 
 pub returns-in_ok-take_edge_on-in-Some-clause-written : goal.returns-in_ok-take_edge_on-in-Some-clause-written
 returns-in_ok-take_edge_on-in-Some-clause-written g t c =
-    on-ok c.take_edge.result c.take_edge.ensures.written (λ written edges before.
+    on-ok c.take_edge_from.result c.take_edge_from.ensures.written (λ written edges before.
     let follow = follow-parts c.args.channels.now c.in-Some.channel.now c.in-Some.others.now edges c.in-Some.ensures.cases.0 before in
     both-written _ _ _ _ _ _ (edge-parts c.args.told c.args.number c.args.channels.now c.in-Some.channel.now c.in-Some.others.now edges c.args.edge c.in-Some.ensures.cases.0)
     (c.in_ok-take_edge_on-in-Some.ensures.written edges follow.0) (written edges follow.1))
 
 pub returns-in_ok-take_edge_on-in-Some-clause-cut : goal.returns-in_ok-take_edge_on-in-Some-clause-cut
 returns-in_ok-take_edge_on-in-Some-clause-cut g t c =
-    on-err c.take_edge.result c.take_edge.ensures.cut (λ cut edges before.
+    on-err c.take_edge_from.result c.take_edge_from.ensures.cut (λ cut edges before.
     let follow = follow-parts c.args.channels.now c.in-Some.channel.now c.in-Some.others.now edges c.in-Some.ensures.cases.0 before in
     second-cut _ _ _ _ _ _ (edge-parts c.args.told c.args.number c.args.channels.now c.in-Some.channel.now c.in-Some.others.now edges c.args.edge c.in-Some.ensures.cases.0)
     (c.in_ok-take_edge_on-in-Some.ensures.written edges follow.0) (cut edges follow.1))
