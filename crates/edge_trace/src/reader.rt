@@ -11,10 +11,9 @@ use crate::line_bytes::{LINE_LIMIT, LineBytes};
 use crate::lines::read_content;
 use crate::plain::plain_front;
 use crate::row::{Row, RowEdges};
-use crate::stamps::MAX_TIME;
 use crate::state::State;
 use crate::texts::{content, length_before};
-use line_base::{Edge, LineFault};
+use line_base::{Edge, LineFault, MAX_TIME};
 
 /// How many bytes of an input may stand in lines: 2^36 - 1.
 pub const INPUT_LIMIT: u64 = 68_719_476_735;
