@@ -1,13 +1,12 @@
 -- Fields that are cut off a text one by one are those of the text.
-use Rattle.std.proofs.Common.{◌≡◌, ℕ, ◌<◌, ◌==◌, not, Bool, true, false, cond, Option, Some, None, Result, Ok, Err, List, [], ◌∷◌, ◌++◌, ◌&&◌, length, option_copied, refl, sym, ◌∙◌, ap, arith}
-use Rattle.std.specs.List.{slice_split, onto_first, list_all, join_with_byte}
+use Rattle.std.proofs.Common.{◌≡◌, ℕ, ◌<◌, ◌==◌, not, Bool, true, false, cond, Option, Some, None, Ok, Err, List, [], ◌∷◌, ◌++◌, length, option_copied, refl, sym, ◌∙◌, ap, arith}
+use Rattle.std.specs.List.{slice_split, onto_first, list_all}
 use Rattle.std.proofs.lemmas.Bool.{and_parts, not-true, ne_eqb}
 use Rattle.std.proofs.lemmas.List.{append-nil, append_assoc}
 use Rattle.std.proofs.lemmas.List.Splits.{length-slice_split}
 use denote.Ref.{Bor}
 use Rattle.line_base.specs.Texts.{cut_at}
 use Rattle.line_base.proofs.Cuts.{split_none, split_some}
-use Rattle.report_text.specs.declared.fault.TextFault.{TextFault}
 use Rattle.report_text.specs.declared.fault.TextFault.TheVariants.{Word}
 use Rattle.report_text.specs.Fields.{is_space, line_of, fields_of, fields_left, field_read, spaced}
 use Rattle.report_text.specs.Readings.{left}

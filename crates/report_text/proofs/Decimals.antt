@@ -1,9 +1,9 @@
 -- Decimal numbers, and the digits that spell them.
-use Rattle.std.proofs.Common.{◌≡◌, ℕ, ◌+◌, ◌-◌, ◌*◌, ◌/◌, ◌%◌, ◌^◌, ◌<◌, ◌≤◌, ◌==◌, ◌&&◌, nat_le, nat_lt, not, Bool, true, false, cond, Option, Some, None, Result, Ok, Err, ok_or, option_map, SomeIff, List, [], ◌∷◌, length, get_or, drop, decimal, refl, sym, ◌∙◌, ap, subst, inl, inr, arith}
+use Rattle.std.proofs.Common.{◌≡◌, ℕ, ◌+◌, ◌-◌, ◌*◌, ◌/◌, ◌%◌, ◌^◌, ◌<◌, ◌≤◌, ◌&&◌, nat_le, nat_lt, not, Bool, true, false, cond, Option, Some, None, Result, Ok, Err, ok_or, option_map, SomeIff, List, [], ◌∷◌, length, get_or, drop, decimal, refl, sym, ◌∙◌, ap, subst, inl, inr, arith}
 use Rattle.std.specs.List.{list_all}
-use Rattle.std.proofs.lemmas.Bool.{and_parts, leb-true, le-leb, lt-ltb, ltb-true, ne_eqb, eq-eqb, eqb-true, not-true, cases_lt, false_from_ne_true}
+use Rattle.std.proofs.lemmas.Bool.{and_parts, leb-true, le-leb, lt-ltb, ltb-true, ne_eqb, eq-eqb, not-true, cases_lt, false_from_ne_true}
 use Rattle.std.proofs.lemmas.List.{drop_more, drop_all}
-use Rattle.std.proofs.lemmas.Fmt.{decimal_nonempty, decimal_digit, first_decimal, digits_decimal, digits_value-decimal, decimal-digits_value}
+use Rattle.std.proofs.lemmas.Fmt.{decimal_digit, first_decimal, digits_decimal, decimal-digits_value}
 use Rattle.line_base.specs.Texts.{is_digit, is_number, number_after, number_in}
 use Rattle.line_base.specs.Texts.{capped}
 use Rattle.line_base.proofs.Numbers.{digit_true, number_after_ge, a_number}

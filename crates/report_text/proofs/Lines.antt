@@ -1,10 +1,9 @@
 -- What stands behind each keyword is read from its own fields alone.
-use Rattle.std.proofs.Common.{◌≡◌, ℕ, suc, ◌^◌, ◌<◌, Bool, true, false, cond, Option, Some, None, Result, Ok, Err, ok_or, List, [], ◌∷◌, ◌++◌, ◌&&◌, codes, map, decimal, bytes_eq, refl, sym, ◌∙◌, ap, subst}
+use Rattle.std.proofs.Common.{◌≡◌, ℕ, suc, ◌^◌, ◌<◌, Bool, true, false, cond, Option, Some, Result, Ok, ok_or, List, [], ◌∷◌, ◌++◌, codes, map, decimal, bytes_eq, refl, sym, ◌∙◌, ap, subst}
 use Rattle.std.specs.List.{list_all}
 use Rattle.std.proofs.lemmas.Slice.Eq.{bytes_eq-Decides}
 use Rattle.std.proofs.lemmas.Bool.{and_from}
 use Rattle.line_base.specs.Nibbles.{AreNibbles}
-use Rattle.sent_fast.specs.declared.layout.Fast.{Fast}
 use Rattle.sent_fast.specs.declared.layout.Fast.TheVariants as fast
 use Rattle.receiver_core.specs.declared.report.What.{What}
 use Rattle.receiver_core.specs.declared.report.What.TheVariants as what

@@ -1,21 +1,18 @@
 -- A report has one line, and is read from that line alone.
-use Rattle.std.proofs.Common.{◌≡◌, ℕ, ◌<◌, ◌^◌, ◌==◌, ◌↔◌, Bool, true, false, Option, Some, Result, Ok, Err, List, [], ◌∷◌, ◌++◌, ◌&&◌, length, decimal, refl, sym, ◌∙◌, ap, subst}
+use Rattle.std.proofs.Common.{◌≡◌, ℕ, ◌<◌, ◌^◌, ◌==◌, ◌↔◌, Result, Ok, List, [], ◌∷◌, ◌++◌, length, decimal, refl, sym, ◌∙◌, ap, subst}
 use Rattle.std.specs.List.{list_all}
 use Rattle.std.proofs.lemmas.Bool.{eqb-true, and_from}
 use Rattle.std.proofs.lemmas.List.{append-nil, nil_from_length}
 use Rattle.std.proofs.lemmas.List.Splits.{join_with_byte-slice_split}
-use denote.Ref.{Bor}
 use Rattle.receiver_core.specs.declared.report.Report.{Report}
-use Rattle.receiver_core.specs.declared.report.What.{What}
 use Rattle.report_text.specs.declared.fault.TextFault.{TextFault}
 use Rattle.report_text.specs.declared.fault.TextFault.TheVariants.{End}
 use Rattle.line_base.specs.Steps.{◌>>=◌, check}
 use Rattle.report_text.specs.Fields.{line_of, fields_of, value_read}
 use Rattle.report_text.specs.Decimals.{two_digits, channel_in, number_spelled}
-use Rattle.report_text.specs.Readings.{left}
 use Rattle.report_text.specs.Reports.{says, IsTellable, report_text, what_read, report_read}
 use Rattle.report_text.proofs.Steps.{bind_ok, check_ok, ok_is}
-use Rattle.report_text.proofs.Cutting.{is_other, are_free, fields_back, fields_some}
+use Rattle.report_text.proofs.Cutting.{is_other, are_free, fields_back}
 use Rattle.report_text.proofs.Decimals.{channel_free, decimal_free}
 use Rattle.report_text.proofs.Spellings.{value_taken, value_again, channels, numbers}
 use Rattle.report_text.proofs.Lines.{said_taken, said_again, said_free}
@@ -70,10 +67,3 @@ exactly text result e channel report = (
   λ found. (let line = report_taken text (channel, report) (sym e ∙ found) in (line.spelled, line.low, line.tellable)),
   λ line. e ∙ ap report_read line.0 ∙ report_again channel report line.1 line.2,
 )
-
--- what goes on behind its last field is no line
-pub goes_on : (text : List ℕ) (channel place : ℕ) (said : What) (first second : List (List ℕ)) (rest : Option (Bor (List ℕ))) (behind : Bor (List ℕ)) → value_read channel_in (fields_of text) ≡ Ok (channel, first) → value_read number_spelled first ≡ Ok (place, second) → what_read second ≡ Ok (said, left rest) → rest ≡ Some behind → Err End ≡ report_read text
-unfolding report_read
-goes_on text channel place said first second rest behind a b c more =
-    let others : what_read second ≡ Ok (said, fields_of behind.now) = c ∙ ap (λ (r : Option (Bor (List ℕ))). Ok (said, left r)) more in
-    sym (rw (a, b, others, fields_some behind.now) refl)

@@ -1,10 +1,9 @@
 -- The names of the rules differ, so that each is read as its rule.
-use Rattle.std.proofs.Common.{◌≡◌, ℕ, ◌<◌, ◌+◌, Bool, true, false, cond, Option, Some, None, Result, Ok, List, [], ◌∷◌, length, get_or, drop, find, bytes_eq, ok_or, refl, sym, ◌∙◌, ap, subst, arith}
+use Rattle.std.proofs.Common.{◌≡◌, ℕ, ◌<◌, Bool, true, false, cond, Option, Some, Ok, List, [], ◌∷◌, length, find, bytes_eq, refl, sym, ◌∙◌, ap, arith}
 use Rattle.std.specs.List.{list_all}
 use Rattle.std.proofs.lemmas.Slice.Eq.{bytes_eq-Decides}
 use Rattle.line_base.specs.declared.rule.Rule.{Rule}
 use Rattle.line_base.specs.declared.rule.Rule.TheVariants as rule
-use Rattle.report_text.specs.declared.fault.TextFault.{TextFault}
 use Rattle.report_text.specs.declared.fault.TextFault.TheVariants.{Word}
 use Rattle.report_text.specs.Rules.{rule_name, all_rules, rule_named, rule_in}
 use Rattle.report_text.proofs.Steps.{some_ok}

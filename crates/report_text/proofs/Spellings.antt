@@ -1,11 +1,10 @@
 -- How the values of fields are spelled: each has one spelling, and is read from that one alone.
-use Rattle.std.proofs.Common.{◌≡◌, ℕ, suc, ◌^◌, ◌<◌, ◌≤◌, ◌&&◌, nat_le, Bool, true, false, Result, Ok, Err, List, [], ◌∷◌, ◌==◌, All, length, map, decimal, refl, sym, ◌∙◌, ap, subst, arith}
+use Rattle.std.proofs.Common.{◌≡◌, ℕ, suc, ◌^◌, ◌<◌, ◌&&◌, nat_le, Bool, true, Result, Ok, List, ◌∷◌, ◌==◌, length, map, decimal, sym, ◌∙◌, ap, subst, arith}
 use Rattle.std.specs.List.{list_all}
 use Rattle.std.proofs.lemmas.Bool.{and_parts, and_from, leb-true, le-leb, eqb-true, eq-eqb}
 use Rattle.std.proofs.lemmas.List.{length-map}
 use Rattle.std.proofs.lemmas.Fmt.{decimal_nonempty}
 use Rattle.line_base.specs.Nibbles.{AreNibbles}
-use Rattle.line_base.specs.declared.rule.Rule.{Rule}
 use Rattle.report_text.specs.declared.fault.TextFault.{TextFault}
 use Rattle.report_text.specs.declared.fault.TextFault.TheVariants.{Number}
 use Rattle.line_base.specs.Steps.{◌>>=◌, check}

@@ -1,5 +1,5 @@
 -- What follows from steps that didn't fail.
-use Rattle.std.proofs.Common.{◌≡◌, ℕ, Bool, true, false, Option, Some, None, Result, Ok, Err, List, ok_or, refl}
+use Rattle.std.proofs.Common.{◌≡◌, Bool, true, false, Option, Some, None, Result, Ok, Err, ok_or, refl}
 use Rattle.report_text.specs.declared.fault.TextFault.{TextFault}
 use Rattle.line_base.specs.Steps.{◌>>=◌, check}
 

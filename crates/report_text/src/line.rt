@@ -1,7 +1,9 @@
 //! The line of a report, and the report of a line.
-ghost use Rattle.std.specs.Prelude.{◌≡◌, ◌↔◌, ℕ, ◌<◌, ◌≤◌, ◌++◌, [], Ok, length};
+ghost use Rattle.std.specs.Prelude.{◌≡◌, ◌↔◌, ℕ, ◌<◌, ◌≤◌, ◌==◌, ◌++◌, [], Ok, length};
 ghost use Rattle.std.specs.Str.{bytes_eq};
+ghost use Rattle.line_base.specs.Steps.{check};
 ghost use Rattle.receiver_core.specs.declared.report.Report.{Report};
+ghost use Rattle.report_text.specs.declared.fault.TextFault.{TextFault};
 ghost use Rattle.report_text.specs.Fields.{spaced};
 ghost use Rattle.report_text.specs.Readings.{Reads, left};
 ghost use Rattle.report_text.specs.Reports.{IsTellable, says, report_text, behind_word, what_read, report_read};
@@ -97,6 +99,17 @@ fn read_what<'a>(rest: Rest<'a>) -> Result<(What, Rest<'a>), TextFault>
     read_behind(word, rest)
 }
 
+/// `End` where the text goes on.
+#[tactic(auto, using(crate::proofs::Cutting::fields_some))]
+fn expect_end(rest: Rest) -> Result<(), TextFault>
+    ensures { result ≡ check (length (left rest.entry) == 0) TextFault.End }
+{
+    match rest {
+        None => Ok(()),
+        Some(_) => Err(TextFault::End),
+    }
+}
+
 /// The channel and the report whose line these bytes are.
 #[tactic(auto, unfolding(crate::specs::Reports::report_read))]
 fn report_of(text: &[u8]) -> Result<(u8, Report), TextFault>
@@ -105,8 +118,10 @@ fn report_of(text: &[u8]) -> Result<(u8, Report), TextFault>
     let (channel, rest) = read_channel(Some(text))?;
     let (place, rest) = read_number(rest)?;
     match read_what(rest) {
-        Ok((what, None)) => Ok((channel, Report { place, what })),
-        Ok((_, Some(_))) => Err(TextFault::End),
+        Ok((what, rest)) => {
+            expect_end(rest)?;
+            Ok((channel, Report { place, what }))
+        }
         Err(fault) => Err(fault),
     }
 }

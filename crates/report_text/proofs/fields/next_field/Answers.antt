@@ -1,4 +1,4 @@
-use Rattle.std.proofs.Common.{sym, ◌∙◌}
+use Rattle.std.proofs.Common.{sym}
 use Rattle.std.proofs.lemmas.Bool.{eqb-true, eqb-false}
 use Rattle.report_text.proofs.Cutting.{left_empty, left_field}
 use Rattle.report_text.proofs.fields.next_field.Goals as goal

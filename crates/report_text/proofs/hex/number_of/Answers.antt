@@ -1,4 +1,4 @@
-use Rattle.std.proofs.Common.{arith, sym}
+use Rattle.std.proofs.Common.{arith}
 use Rattle.std.proofs.lemmas.Result.{err_from_is_err_and}
 use Rattle.report_text.proofs.Reading.{has_room, one_more, bad_digit, all_read, other_width}
 use Rattle.report_text.proofs.hex.number_of.Goals as goal
