@@ -24,3 +24,4 @@ pub mod ReadsBack
 pub mod WrittenEdges
 pub mod WholeLines
 pub mod PlainFronts
+pub mod UnitFronts

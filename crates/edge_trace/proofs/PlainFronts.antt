@@ -1,11 +1,9 @@
 -- Plain rows at the front of a text.
-use Rattle.std.proofs.Common.{◌≡◌, ℕ, zero, suc, ◌+◌, ◌-◌, ◌<◌, ◌≤◌, ◌==◌, ◌&&◌, Bool, true, false, cond, Option, Some, None, All, List, [], ◌∷◌, ◌++◌, length, get_or, take, drop, nat_le, refl, sym, ◌∙◌, ap, subst, inl, inr, arith}
+use Rattle.std.proofs.Common.{◌≡◌, ℕ, zero, suc, ◌+◌, ◌-◌, ◌<◌, ◌≤◌, ◌==◌, ◌&&◌, Bool, true, false, cond, Option, Some, None, List, [], ◌∷◌, ◌++◌, length, get_or, take, refl, sym, ◌∙◌, ap, subst, inl, inr, arith}
 use Rattle.std.proofs.Math.Seq.{take-append-add}
-use Rattle.std.proofs.lemmas.Bool.{ne_eqb, eq-eqb, cases_eq, cases_Bool, le-leb}
-use Rattle.std.proofs.lemmas.List.{append_assoc, length-append, length-take-le, get_or-append-add}
-use Rattle.std.proofs.lemmas.List.Elements.{All-append, All-get_or}
+use Rattle.std.proofs.lemmas.Bool.{ne_eqb, cases_eq, cases_Bool}
+use Rattle.std.proofs.lemmas.List.{append_assoc, length-append, get_or-append-add}
 use Rattle.std.specs.List.{list_all}
-use Rattle.line_base.specs.declared.edge.Edge.{Edge}
 use Rattle.edge_trace.specs.Lines.{without_cr}
 use Rattle.line_base.specs.Texts.{cut_at, is_digit, is_number, number_after, number_in}
 use Rattle.edge_trace.specs.Fields.{level_in}
@@ -44,8 +42,8 @@ cut_parts mark (byte ∷ bytes) front rest e = elim (cases_eq byte mark) [
       (cut_parts mark bytes (cut_at mark bytes).0 rest (ap (λ (o : Option (List ℕ)). ((cut_at mark bytes).0, o)) (ap (λ (q : List ℕ × Option (List ℕ)). q.1) p))))
 ]
 
--- digits stand above a comma
-digit_high : (byte : ℕ) (t : Bool) → (is_digit byte && t) ≡ true → (44 ≤ byte) × (t ≡ true)
+-- digits stand above a plus
+digit_high : (byte : ℕ) (t : Bool) → (is_digit byte && t) ≡ true → (43 ≤ byte) × (t ≡ true)
 digit_high byte t e = grind arith
 
 digits_high : (field : List ℕ) → list_all is_digit field ≡ true → IsHigh field
@@ -64,7 +62,7 @@ high_append : (xs ys : List ℕ) → IsHigh xs → IsHigh ys → IsHigh (xs ++ y
 high_append [] ys high more = more
 high_append (x ∷ xs) ys high more = (high.0, high_append xs ys high.1 more)
 
-pub no_low : (xs : List ℕ) (k : ℕ) → IsHigh xs → k < length xs → 44 ≤ get_or xs k 0
+pub no_low : (xs : List ℕ) (k : ℕ) → IsHigh xs → k < length xs → 43 ≤ get_or xs k 0
 no_low [] k high within = absurd (omega arith)
 no_low (x ∷ xs) zero high within = high.0
 no_low (x ∷ xs) (suc k) high within = no_low xs k high.1 (omega arith)
@@ -124,11 +122,13 @@ module _ (text rest last : List ℕ) (time line : ℕ) (level : Bool) (first : B
       let same : count ≡ length lead + 1 = omega arith in
       let content : take count text ≡ lead ++ take 1 last = ap (λ (n : ℕ). take n text) same ∙ content_is in
       record {
-        within = omega arith;
-        ends = ap (λ (n : ℕ). get_or text n 0) same ∙ ap (λ xs. get_or xs (length lead + 1) 0) whole ∙ get_or-append-add lead last 1 0 ∙ lf;
-        some = omega arith;
+        front = record {
+          within = omega arith;
+          ends = ap (λ (n : ℕ). get_or text n 0) same ∙ ap (λ xs. get_or xs (length lead + 1) 0) whole ∙ get_or-append-add lead last 1 0 ∙ lf;
+          some = omega arith;
+          high = subst IsHigh (sym content) (high_append lead (take 1 last) lead_high (level_high (take 1 last) level e));
+        };
         spells = subst (λ (xs : List ℕ). SpellsEdge xs (record { line = line; time = time; level = level })) (sym (content ∙ lead_is (take 1 last)))
             (plain_edge (first.front ++ 44 ∷ (second.front ++ 44 ∷ take 1 last)) (second.front ++ 44 ∷ take 1 last) (take 1 last) time line level
             (begins_again text rest (second.front ++ 44 ∷ take 1 last) time first) (begins_again rest last (take 1 last) line second) e);
-        high = subst IsHigh (sym content) (high_append lead (take 1 last) lead_high (level_high (take 1 last) level e));
       }

@@ -133,7 +133,7 @@ time_is_in_range time le =
     let same : 0 + 1 * time ≡ time = omega arith in
     sym (ap (λ (n : ℕ). check (nat_le n (10 ^ 15)) TooLarge >>= λ _. Ok n) same ∙ ap (λ (t : Bool). check t TooLarge >>= λ _. Ok time) (le-leb time (10 ^ 15) le))
 
-line_is_in_range : (field : List ℕ) (line : ℕ) → number_in field ≡ Some line → line ≤ 15 → Ok line ≡ line_field field
+pub line_is_in_range : (field : List ℕ) (line : ℕ) → number_in field ≡ Some line → line ≤ 15 → Ok line ≡ line_field field
 line_is_in_range field line e le = sym (rw (e, le-leb line 15 le) refl)
 
 -- a plain row in ns without a fault

@@ -160,6 +160,7 @@ pub record IsLaterRow (form : code.Form) (before : ℕ) (levels : List (Option B
   pub rows : List Edge
   pub same : row_read (form_of form) stamps rows content ≡ content_read standing content
   pub time_is : before ≡ time_of (form_of form) stamps
+  pub form_is : IsForm form
   pub levels_are : HasLevels levels rows
 
 row_among : (form : code.Form) (before : ℕ) (levels : List (Option Bool)) (standing : Standing) (content : List ℕ) → IsInRows form before levels standing → is_skipped content ≡ false → IsLaterRow form before levels standing content
@@ -168,6 +169,7 @@ row_among form before levels standing content at kept = record {
   rows = at.rows;
   same = sym (ap (λ s. content_read s content) at.is ∙ ap (λ t. cond t (without_row (InRows (form_of form) at.stamps at.rows)) (row_read (form_of form) at.stamps at.rows content)) kept);
   time_is = at.time_is;
+  form_is = at.form_is;
   levels_are = at.levels_are;
 }
 

@@ -21,6 +21,11 @@ abbrev pub answers_with : Option Edge → List (Result (List Edge) LineFault)
 answers_with None = []
 answers_with (Some edge) = Ok (edge ∷ []) ∷ []
 
+-- the answers of a row with these edges: none where it has no edge
+abbrev pub answers_of_row : List Edge → List (Result (List Edge) LineFault)
+answers_of_row [] = []
+answers_of_row (edge ∷ edges) = Ok (edge ∷ edges) ∷ []
+
 -- these bytes have no fault, and the list has come so far behind the lines that ended
 pub record IsOpen (bytes : List ℕ) (standing : Standing) : Type 0 where
   pub within : length bytes ≤ input_limit

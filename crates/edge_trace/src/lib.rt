@@ -24,6 +24,7 @@ mod state;
 #[cfg(test)]
 mod tests;
 mod texts;
+mod units;
 mod wide;
 
 pub use edge_text::edge_line;

@@ -5,10 +5,11 @@ ghost use Rattle.edge_trace.specs.Fields.{fields};
 ghost use Rattle.edge_trace.specs.Rows.{Stamp, unit_of, line_field, narrow_row};
 ghost use Rattle.edge_trace.specs.Rows as row;
 ghost use Rattle.edge_trace.specs.Readings.{form_of, IsForm, stamp_time, IsStamped};
+ghost use Rattle.edge_trace.specs.PlainRows.{IsRowFront};
 
 use crate::digits::level_of;
 use crate::form::Form;
-use crate::plain::plain_row;
+use crate::plain::{plain_front, plain_row};
 use crate::stamps::time_in;
 use crate::texts::trimmed;
 use line_base::text::{cut, number_of};
@@ -56,6 +57,22 @@ pub(crate) fn plain_narrow(before: u64, content: &[u8]) -> Option<Edge>
         return None;
     }
     Some(edge)
+}
+
+/// The edge of a plain row in ns that stands whole at the front of a text, behind a row of a time of `before`
+/// ns, and how many bytes stand before its LF. It has no fault.
+#[inline(always)]
+pub(crate) fn narrow_front(before: u64, text: &[u8]) -> Option<(Edge, usize)>
+    ensures front { IfSome result (λ found. IsRowFront row.Narrow before text.now found.0 found.1) }
+    ensures line { IfSome result (λ found. found.0.line ≤ 15) }
+    ensures time { IfSome result (λ found. found.0.time ≤ 10 ^ 15) }
+{
+    let (edge, count) = plain_front(text)?;
+    if before <= edge.time && edge.time <= MAX_TIME {
+        Some((edge, count))
+    } else {
+        None
+    }
 }
 
 /// What a narrow row says, behind a row of a time of `before` ns.

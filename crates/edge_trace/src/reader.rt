@@ -9,10 +9,11 @@ use crate::form::Form;
 use crate::levels::{Levels, is_edge};
 use crate::line_bytes::{LINE_LIMIT, LineBytes};
 use crate::lines::read_content;
-use crate::plain::plain_front;
+use crate::narrow::narrow_front;
 use crate::row::{Row, RowEdges};
 use crate::state::State;
 use crate::texts::{content, length_before};
+use crate::units::units_front;
 use line_base::{Edge, LineFault, MAX_TIME};
 
 /// How many bytes of an input may stand in lines: 2^36 - 1.
@@ -41,15 +42,16 @@ pub struct EdgeReader {
 }
 
 impl EdgeReader {
-    ghost use Rattle.std.specs.Prelude.{◌<◌, ◌+◌, ◌-◌, ◌^◌, ◌==◌, ◌⊎◌, min, List, [], ◌∷◌, ◌++◌, length, take, filter, slice_index_or, Option, None, Some, Err, if◌then◌else◌};
+    ghost use Rattle.std.specs.Prelude.{◌≢◌, ◌<◌, ◌+◌, ◌-◌, ◌^◌, ◌==◌, ◌⊎◌, min, List, [], ◌∷◌, ◌++◌, length, take, filter, slice_index_or, Option, None, Some, Err, if◌then◌else◌};
     ghost use Rattle.std.specs.Option.{option_to_list};
     ghost use Rattle.line_base.specs.declared.faults.LineFault.{LineFault as Fault};
     ghost use Rattle.edge_trace.specs.Lines.{without_cr};
     ghost use Rattle.edge_trace.specs.EdgeLists.{Standing, content_read, is_new};
-    ghost use Rattle.edge_trace.specs.declared.form.Form.TheVariants as form;
+    ghost use Rattle.edge_trace.specs.declared.form.Form.TheVariants as variant;
     ghost use Rattle.edge_trace.specs.declared.state.State.TheVariants as state;
     ghost use Rattle.edge_trace.specs.Limits.{fault_of, answers_of, whole_fault_of, whole_answers_of, line_number_of, last_line};
-    ghost use Rattle.edge_trace.specs.Readings.{IsAt};
+    ghost use Rattle.edge_trace.specs.PlainRows.{IsRowFront};
+    ghost use Rattle.edge_trace.specs.Readings.{IsAt, IsForm, form_of};
     ghost use Rattle.edge_trace.specs.Readers.{answers_in, answers_with, StandsFor, GoesOn, HasEnded, Takes, EndsLine, IsLongest};
 
     /// A reader of no bytes.
@@ -98,10 +100,10 @@ impl EdgeReader {
         count
     }
 
-    /// Takes the plain row in ns that stands whole at the front of a block, with its LF, and gives how many
-    /// bytes it has and its edge, if it is one. It takes 0 bytes where there is none, where the list isn't of
-    /// narrow rows in ns, where a line is begun, and where the row isn't fault-free: those bytes are for
-    /// `feed` and `take_run`. It also leaves a row in the last 40 bytes of a block to them.
+    /// Takes the plain row that stands whole at the front of a block, with its LF, and gives how many bytes it
+    /// has and its edge, if it is one. It takes 0 bytes where there is none, where the list isn't of narrow
+    /// rows, where a line is begun, and where the row isn't fault-free: those bytes are for `feed` and
+    /// `take_run`. It also leaves a row in the last 40 bytes of a block to them.
     #[inline(always)]
     pub fn take_row(&mut self, block: &[u8]) -> (usize, Option<Edge>)
         ensures fits { result.0 ≤ length block.now }
@@ -113,24 +115,55 @@ impl EdgeReader {
         if self.line.len() > 0 {
             return (0, None);
         }
-        let Some(State::Rows(Form::Narrow, before)) = self.state else {
-            return (0, None);
-        };
-        let Some((edge, count)) = plain_front(block) else {
-            return (0, None);
-        };
-        if edge.time < before || edge.time > MAX_TIME || count >= self.room {
+        if let Some(State::Rows(Form::Narrow, before)) = self.state {
+            if let Some((edge, count)) = narrow_front(before, block) {
+                return self.take_front(Form::Narrow, before, edge, count, block);
+            }
             return (0, None);
         }
-        (count + 1, self.keep_row(edge, count))
+        if let Some(State::Rows(Form::Units(unit), before)) = self.state {
+            if let Some((edge, count)) = units_front(unit, before, block) {
+                return self.take_front(Form::Units(unit), before, edge, count, block);
+            }
+        }
+        (0, None)
+    }
+
+    /// Takes a narrow row of so many bytes and its LF at the front of a block, behind a row of a time of
+    /// `before` ns, where a line has room for it.
+    #[inline(always)]
+    fn take_front(
+        &mut self,
+        form: Form,
+        before: u64,
+        edge: Edge,
+        count: usize,
+        block: &[u8],
+    ) -> (usize, Option<Edge>)
+        requires empty { length self.old.line ≡ 0 }
+        requires state { self.old.state ≡ Some (state.Rows form before) }
+        requires narrow { (columns : ℕ) → form ≢ variant.Wide columns }
+        requires front { IsRowFront (form_of form) before block.now edge count }
+        requires line { edge.line ≤ 15 }
+        requires time { edge.time ≤ 10 ^ 15 }
+        ensures fits { result.0 ≤ length block.now }
+        ensures in_range { IfSome result.1 (λ edge. edge.time ≤ 10 ^ 15) }
+        ensures stands { (seen : List ℕ) → StandsFor self.old seen → StandsFor self.new (seen ++ take result.0 block.now) }
+        ensures grows { (seen : List ℕ) → StandsFor self.old seen → answers_of (seen ++ take result.0 block.now) ≡ answers_of seen ++ answers_with result.1 }
+    {
+        if count >= self.room {
+            return (0, None);
+        }
+        (count + 1, self.keep_row(form, edge, count))
     }
 
     /// Begins the next line behind a narrow row of so many bytes. Gives its edge, if it is one.
     #[inline(always)]
-    fn keep_row(&mut self, edge: Edge, count: usize) -> Option<Edge>
+    fn keep_row(&mut self, form: Form, edge: Edge, count: usize) -> Option<Edge>
+        requires form { IsForm form }
         requires line { edge.line ≤ 15 }
         requires time { edge.time ≤ 10 ^ 15 }
-        ensures state { self.new.state ≡ Some (state.Rows form.Narrow edge.time) }
+        ensures state { self.new.state ≡ Some (state.Rows form edge.time) }
         ensures room { self.new.room ≡ min 512 self.new.left }
         ensures line { self.new.line ≡ [] }
         ensures number { self.new.ended ≡ min (self.old.ended + 1) 18446744073709551615 }
@@ -141,7 +174,7 @@ impl EdgeReader {
     {
         let told = is_edge(edge, &mut self.levels);
         self.left = self.left.saturating_sub(count as u64).saturating_sub(1);
-        self.begin_line(State::Rows(Form::Narrow, edge.time));
+        self.begin_line(State::Rows(form, edge.time));
         if told { Some(edge) } else { None }
     }
 

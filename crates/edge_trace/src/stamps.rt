@@ -12,7 +12,7 @@ use line_base::{LineFault, MAX_TIME};
 
 /// The time in ns, at most 10^15, of so many units of so many ns behind a time.
 #[inline]
-fn time_after(before: u64, unit: u32, count: Option<u64>) -> Result<u64, LineFault>
+pub(crate) fn time_after(before: u64, unit: u32, count: Option<u64>) -> Result<u64, LineFault>
     requires before { before ≤ 10 ^ 15 }
     requires unit { 1 ≤ unit }
     ensures value { (units : Option ℕ) → count ≡ option_map capped units → result ≡ time_behind before unit units }

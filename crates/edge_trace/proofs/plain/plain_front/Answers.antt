@@ -1,4 +1,4 @@
-use Rattle.std.proofs.Common.{◌≡◌, ℕ, ◌+◌, length, refl, sym, ap, ◌∙◌, arith, rules}
+use Rattle.std.proofs.Common.{refl, arith, rules}
 use Rattle.edge_trace.proofs.PlainFronts.{longer, plain_front_is}
 use Rattle.edge_trace.proofs.plain.plain_front.Goals as goal
 
