@@ -158,3 +158,16 @@ pub stopped-in : (old mid : Run) (why : Stop) (a b : Option (List ℕ)) (c : Wri
 stopped-in old mid why a b c f h block more rest bytes before reads stopped =
     subst (λ (bs : List ℕ). StoppedAt (decoding_of old) why (written_by old a) c bytes (bytes ++ bs)) (append_assoc before.taken more rest ∙ before.parts)
     (block-stopped old mid why a b c f h before.taken more rest bytes before.so_far reads stopped)
+
+-- none of a block was taken, and then so many bytes
+pub none-then : (old mid new : Run) (a b c : Option (List ℕ)) (f h k : ℕ) (block : List ℕ) (none count : ℕ) → none ≡ 0 → BlockSoFar old mid a b f h (take none block) → BlockSoFar mid new b c h k (take count block)
+    → BlockSoFar old new a c f k (take count block)
+none-then old mid new a b c f h k block none count e first second =
+    subst (λ (n : ℕ). BlockSoFar old new a c f k (take n block ++ take count block)) e (block-behind old mid new a b c f h k (take none block) (take count block) first second)
+
+-- what stopped a run behind none of a block stopped it in the block
+pub none-then-stopped : (old mid : Run) (why : Stop) (a b : Option (List ℕ)) (c : Written) (f h : ℕ) (block : List ℕ) (none : ℕ) (bytes : List ℕ) → none ≡ 0 → BlockSoFar old mid a b f h (take none block) → Reads old bytes
+    → ((bs : List ℕ) → Reads mid bs → StoppedAt (decoding_of mid) why (written_by mid b) c bs (bs ++ block)) → StoppedAt (decoding_of old) why (written_by old a) c bytes (bytes ++ block)
+none-then-stopped old mid why a b c f h block none bytes e first reads stopped =
+    subst (λ (bs : List ℕ). StoppedAt (decoding_of old) why (written_by old a) c bytes (bytes ++ bs)) (ap (λ (n : ℕ). (take n block ++ block) ++ []) e ∙ append-nil block)
+    (block-stopped old mid why a b c f h (take none block) block [] bytes first reads stopped)

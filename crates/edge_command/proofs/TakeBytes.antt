@@ -5,7 +5,7 @@ use Rattle.line_base.specs.declared.edge.Edge.{Edge}
 use Rattle.line_base.specs.declared.faults.LineFault.{LineFault}
 use Rattle.edge_trace.specs.declared.reader.EdgeReader.{EdgeReader}
 use Rattle.edge_trace.specs.Limits.{edges_of, fault_of, answers_of, line_number_of}
-use Rattle.edge_trace.specs.Readers.{StandsFor}
+use Rattle.edge_trace.specs.Readers.{StandsFor, answers_of_row}
 use Rattle.edge_trace.proofs.Times.{edges-in_range}
 use Rattle.edge_trace.proofs.OrderedLists.{edges_are_few}
 use Rattle.edge_command.specs.declared.run.Run.{Run}
@@ -75,3 +75,12 @@ on_right P xs ys all = λ k d h.
 pub row-in_range : (bytes later : List ℕ) (row : List Edge) → answers_of later ≡ answers_of bytes ++ Ok row ∷ [] → All (λ edge. edge.time ≤ 10 ^ 15) row
 row-in_range bytes later row grows =
     on_right (λ (e : Edge). e.time ≤ 10 ^ 15) (edges_of bytes) row (subst (λ (es : List Edge). All (λ e. e.time ≤ 10 ^ 15) es) (row_edges bytes later row grows) (edges-in_range later))
+
+-- the answers of a row, by whether it has an edge
+pub no-answers : (row : List Edge) → length row ≡ 0 → answers_of_row row ≡ []
+no-answers [] e = refl
+no-answers (edge ∷ edges) e = absurd (omega arith)
+
+pub one-answer : (row : List Edge) → (length row ≡ 0 → ⊥) → answers_of_row row ≡ Ok row ∷ []
+one-answer [] ne = absurd (ne refl)
+one-answer (edge ∷ edges) ne = refl

@@ -154,10 +154,10 @@ impl Run {
         )
     }
 
-    /// Takes the plain row that stands whole at the front of a block, writes the lines of its edge, and gives
-    /// how many bytes it has; 0 where none is taken.
+    /// Takes the plain narrow row that stands whole at the front of a block, writes the lines of its edge, and
+    /// gives how many bytes it has; 0 where none is taken.
     #[inline(always)]
-    fn take_row<K: Sink>(&mut self, block: &[u8], out: &mut K) -> Result<usize, Stop>
+    fn take_narrow_row<K: Sink>(&mut self, block: &[u8], out: &mut K) -> Result<usize, Stop>
         requires { (bytes : List ℕ) × Reads self.old bytes }
         ensures decoding { decoding_of self.new ≡ decoding_of self.old }
         ensures fits { IfOk result (λ count. count ≤ length block.now) }
@@ -175,6 +175,49 @@ impl Run {
             Ok(()) => Ok(count),
             Err(Failed) => Err(Stop::Put),
         }
+    }
+
+    /// The same of a plain wide row and its edges.
+    #[inline(never)]
+    fn take_wide_row<K: Sink>(&mut self, block: &[u8], out: &mut K) -> Result<usize, Stop>
+        requires { (bytes : List ℕ) × Reads self.old bytes }
+        ensures decoding { decoding_of self.new ≡ decoding_of self.old }
+        ensures fits { IfOk result (λ count. count ≤ length block.now) }
+        ensures took { IfOk result (λ count. (bytes : List ℕ) → Reads self.old bytes
+            → TookBytes self.old self.new (K.got out.old) (K.got out.new) bytes (bytes ++ take count block.now)) }
+        ensures stopped { IfErr result (λ why. (bytes : List ℕ) → Reads self.old bytes
+            → StoppedAt (decoding_of self.old) why (written_by self.old (K.got out.old)) (written_by self.new (K.got out.new)) bytes (bytes ++ block.now)) }
+        ensures output { StopCounted result (K.faults out.old) (K.faults out.new) }
+    {
+        let (taken, edges) = self.lines.take_wide_row(block);
+        if edges.is_empty() {
+            return Ok(taken);
+        }
+        match self.put_row(&edges, out) {
+            Ok(()) => Ok(taken),
+            Err(Failed) => Err(Stop::Put),
+        }
+    }
+
+    /// Takes the plain row that stands whole at the front of a block, writes the lines of its edges, and gives
+    /// how many bytes it has; 0 where none is taken.
+    #[inline(always)]
+    fn take_row<K: Sink>(&mut self, block: &[u8], out: &mut K) -> Result<usize, Stop>
+        requires { (bytes : List ℕ) × Reads self.old bytes }
+        ensures decoding { decoding_of self.new ≡ decoding_of self.old }
+        ensures fits { IfOk result (λ count. count ≤ length block.now) }
+        ensures took { IfOk result (λ count. (bytes : List ℕ) → Reads self.old bytes
+            → TookBytes self.old self.new (K.got out.old) (K.got out.new) bytes (bytes ++ take count block.now)) }
+        ensures stopped { IfErr result (λ why. (bytes : List ℕ) → Reads self.old bytes
+            → StoppedAt (decoding_of self.old) why (written_by self.old (K.got out.old)) (written_by self.new (K.got out.new)) bytes (bytes ++ block.now)) }
+        ensures output { StopCounted result (K.faults out.old) (K.faults out.new) }
+    {
+        let count = self.take_narrow_row(block, out)?;
+        if count > 0 {
+            return Ok(count);
+        }
+        let wide = self.take_wide_row(block, out)?;
+        Ok(wide)
     }
 
     /// Takes the next byte, and writes the lines of what it ends.

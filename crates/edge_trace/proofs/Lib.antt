@@ -25,3 +25,4 @@ pub mod WrittenEdges
 pub mod WholeLines
 pub mod PlainFronts
 pub mod UnitFronts
+pub mod WideFronts

@@ -46,7 +46,7 @@ cut_parts mark (byte ∷ bytes) front rest e = elim (cases_eq byte mark) [
 digit_high : (byte : ℕ) (t : Bool) → (is_digit byte && t) ≡ true → (43 ≤ byte) × (t ≡ true)
 digit_high byte t e = grind arith
 
-digits_high : (field : List ℕ) → list_all is_digit field ≡ true → IsHigh field
+pub digits_high : (field : List ℕ) → list_all is_digit field ≡ true → IsHigh field
 digits_high [] e = tt
 digits_high (byte ∷ bytes) e = let d = digit_high byte (list_all is_digit bytes) e in (d.0, digits_high bytes d.1)
 
@@ -58,7 +58,7 @@ number_high (byte ∷ bytes) number e = elim (cases_Bool (is_number (byte ∷ by
   | inr not ↦ (let none : None ≡ Some number = sym (ap (λ t. cond t (Some (number_after 0 (byte ∷ bytes))) None) not) ∙ e in absurd (cc))
 ]
 
-high_append : (xs ys : List ℕ) → IsHigh xs → IsHigh ys → IsHigh (xs ++ ys)
+pub high_append : (xs ys : List ℕ) → IsHigh xs → IsHigh ys → IsHigh (xs ++ ys)
 high_append [] ys high more = more
 high_append (x ∷ xs) ys high more = (high.0, high_append xs ys high.1 more)
 
@@ -87,7 +87,7 @@ level_high (byte ∷ []) high e = elim (cases_eq byte 48) [
 ]
 level_high (byte ∷ next ∷ bytes) high e = absurd (cc)
 
-begins_again : (text rest ys : List ℕ) (number : ℕ) → (begins : BeginsWithNumber text number rest) → BeginsWithNumber (begins.front ++ 44 ∷ ys) number ys
+begins_again : (text rest ys : List ℕ) (number : ℕ) → (begins : BeginsWithNumber 44 text number rest) → BeginsWithNumber 44 (begins.front ++ 44 ∷ ys) number ys
 begins_again text rest ys number begins = record {
   front = begins.front;
   cut = (cut_parts 44 text begins.front rest begins.cut).again ys;
@@ -95,7 +95,7 @@ begins_again text rest ys number begins = record {
   no_blanks = begins.no_blanks;
 }
 
-module _ (text rest last : List ℕ) (time line : ℕ) (level : Bool) (first : BeginsWithNumber text time rest) (second : BeginsWithNumber rest line last) where
+module _ (text rest last : List ℕ) (time line : ℕ) (level : Bool) (first : BeginsWithNumber 44 text time rest) (second : BeginsWithNumber 44 rest line last) where
   -- what stands before the level
   abbrev lead : List ℕ
   lead = first.front ++ 44 ∷ (second.front ++ 44 ∷ [])

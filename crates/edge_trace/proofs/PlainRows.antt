@@ -17,14 +17,14 @@ use Rattle.line_base.proofs.Numbers.{number_after_append, digit_true}
 use Rattle.edge_trace.proofs.Judging.{all_three, stamped, narrow_time}
 
 -- the bytes so far are digits, and this is their number
-pub record NumberSoFar (text : List ℕ) (i number : ℕ) : Type 0 where
-  pub cut : CutSoFar 44 text i
+pub record NumberSoFar (mark : ℕ) (text : List ℕ) (i number : ℕ) : Type 0 where
+  pub cut : CutSoFar mark text i
   pub digital : list_all is_digit (take i text) ≡ true
   pub value : number ≡ number_after 0 (take i text)
   pub small : number < 10 ^ i
 
-pub no_number : (text : List ℕ) → NumberSoFar text 0 0
-no_number text = record { cut = cut_none 44 text; digital = refl; value = refl; small = omega arith }
+pub no_number : (mark : ℕ) (text : List ℕ) → NumberSoFar mark text 0 0
+no_number mark text = record { cut = cut_none mark text; digital = refl; value = refl; small = omega arith }
 
 one_digit : (t : Bool) (xs ys : List ℕ) → (list_all is_digit xs ≡ true → list_all is_digit ys ≡ true) → (t && list_all is_digit xs) ≡ true → (t && list_all is_digit ys) ≡ true
 one_digit true xs ys later e = later e
@@ -34,13 +34,13 @@ all_push : (xs : List ℕ) (byte : ℕ) → is_digit byte ≡ true → list_all 
 all_push [] byte d e = ap (λ t. t && true) d
 all_push (x ∷ xs) byte d e = one_digit (is_digit x) xs (xs ++ byte ∷ []) (all_push xs byte d) e
 
-pub one_more_digit : (text : List ℕ) (i number : ℕ) → NumberSoFar text i number → i < length text → 48 ≤ get_or text i 0 → get_or text i 0 ≤ 57 → NumberSoFar text (i + 1) (number * 10 + (get_or text i 0 - 48))
-one_more_digit text i number so_far within low high =
+pub one_more_digit : (mark : ℕ) (text : List ℕ) (i number : ℕ) → mark < 48 → NumberSoFar mark text i number → i < length text → 48 ≤ get_or text i 0 → get_or text i 0 ≤ 57 → NumberSoFar mark text (i + 1) (number * 10 + (get_or text i 0 - 48))
+one_more_digit mark text i number below so_far within low high =
     let byte : ℕ = get_or text i 0 in
     let more : take (i + 1) text ≡ take i text ++ byte ∷ [] = take_more text i 0 within in
     let power : 10 ^ (i + 1) ≡ 10 ^ i * 10 = ap (λ (n : ℕ). 10 ^ n) (add-one i) ∙ pow-suc 10 i in
     record {
-      cut = cut_more 44 text i so_far.cut within (λ e. omega arith);
+      cut = cut_more mark text i so_far.cut within (λ e. omega arith);
       digital = ap (list_all is_digit) more ∙ all_push (take i text) byte (digit_true byte low high) so_far.digital;
       value = ap (λ (n : ℕ). n * 10 + (byte - 48)) so_far.value ∙ sym (ap (number_after 0) more ∙ number_after_append 0 (take i text) (byte ∷ []));
       small = (let small = so_far.small in omega arith);
@@ -59,8 +59,8 @@ wrapped_digit byte value small e digit = record {
   value_is = omega arith;
 }
 
-pub digit_fits : (text : List ℕ) (i number : ℕ) → NumberSoFar text i number → i < 17 → number < 10000000000000000
-digit_fits text i number so_far few =
+pub digit_fits : (mark : ℕ) (text : List ℕ) (i number : ℕ) → NumberSoFar mark text i number → i < 17 → number < 10000000000000000
+digit_fits mark text i number so_far few =
     let most : 10 ^ i ≤ 10 ^ 16 = pow-le-pow_right {n = 10} (omega arith) {i = i} {j = 16} (omega arith) in
     let small = so_far.small in
     omega arith
@@ -77,12 +77,12 @@ no_blank (byte ∷ bytes) digital = elim (cases_eq byte 32) [
   | inr other ↦ ap (λ t. cond t (without_blanks bytes) (byte ∷ bytes)) (ne_eqb byte 32 other)
 ]
 
-pub number_found : (text : List ℕ) (i number : ℕ) → NumberSoFar text i number → i < length text → 0 < i → get_or text i 0 ≡ 44 → BeginsWithNumber text number (drop (i + 1) text)
-number_found text i number so_far within some comma =
+pub number_found : (mark : ℕ) (text : List ℕ) (i number : ℕ) → NumberSoFar mark text i number → i < length text → 0 < i → get_or text i 0 ≡ mark → BeginsWithNumber mark text number (drop (i + 1) text)
+number_found mark text i number so_far within some marked =
     let long = length-take-le i text (omega arith) in
     record {
       front = take i text;
-      cut = cut_found 44 text i so_far.cut within comma;
+      cut = cut_found mark text i so_far.cut within marked;
       spelled = spelled_number (take i text) (omega arith) so_far.digital ∙ ap (λ (n : ℕ). Some n) (sym so_far.value);
       no_blanks = no_blank (take i text) so_far.digital;
     }
@@ -112,7 +112,7 @@ level_last (byte ∷ []) high e = elim (cases_eq byte 48) [
 level_last (byte ∷ next ∷ bytes) high e = absurd (cc)
 
 -- the edge of a plain row
-pub plain_edge : (content rest last : List ℕ) (time line : ℕ) (level : Bool) → BeginsWithNumber content time rest → BeginsWithNumber rest line last → Some level ≡ level_in last → SpellsEdge content (record { line = line; time = time; level = level })
+pub plain_edge : (content rest last : List ℕ) (time line : ℕ) (level : Bool) → BeginsWithNumber 44 content time rest → BeginsWithNumber 44 rest line last → Some level ≡ level_in last → SpellsEdge content (record { line = line; time = time; level = level })
 plain_edge content rest last time line level first second e =
     let end = level_last last level e in
     record {
@@ -128,7 +128,7 @@ plain_edge content rest last time line level first second e =
       level_is = sym e;
     }
 
-time_is_in_range : (time : ℕ) → time ≤ 10 ^ 15 → Ok time ≡ time_behind 0 1 (Some time)
+pub time_is_in_range : (time : ℕ) → time ≤ 10 ^ 15 → Ok time ≡ time_behind 0 1 (Some time)
 time_is_in_range time le =
     let same : 0 + 1 * time ≡ time = omega arith in
     sym (ap (λ (n : ℕ). check (nat_le n (10 ^ 15)) TooLarge >>= λ _. Ok n) same ∙ ap (λ (t : Bool). check t TooLarge >>= λ _. Ok time) (le-leb time (10 ^ 15) le))

@@ -1,10 +1,10 @@
 -- The reader that takes a whole line at the front of a block.
-use Rattle.std.proofs.Common.{◌≡◌, ℕ, ◌^◌, ◌==◌, cond, filter, Ok, ◌+◌, ◌-◌, ◌<◌, ◌≤◌, min, Option, Some, None, List, [], ◌∷◌, ◌++◌, length, take, get_or, refl, sym, ◌∙◌, ap, subst, arith}
+use Rattle.std.proofs.Common.{◌≡◌, ℕ, nat_lt, false, Bool, ◌^◌, ◌==◌, cond, filter, Ok, ◌+◌, ◌-◌, ◌<◌, ◌≤◌, min, Option, Some, None, List, [], ◌∷◌, ◌++◌, length, take, get_or, refl, sym, ◌∙◌, ap, subst, arith}
 use Rattle.std.proofs.lemmas.List.{take_more, append_assoc, length-take-le, get_or-take}
 use Rattle.edge_trace.specs.Lines.{without_cr}
 use Rattle.edge_trace.specs.EdgeLists.{content_read, Read, is_new, row_read}
 use Rattle.edge_trace.specs.Limits.{answers_of}
-use Rattle.edge_trace.specs.Rows.{Stamp, time_of}
+use Rattle.edge_trace.specs.Rows.{Stamp, time_of, said_from}
 use Rattle.edge_trace.specs.Readings.{HasRead, HasLevels, IsForm, form_of}
 use Rattle.edge_trace.specs.Readers.{answers_with, answers_of_row, answers_of_read, StandsFor, IsBehind}
 use Rattle.edge_trace.specs.declared.reader.EdgeReader.{EdgeReader}
@@ -17,8 +17,9 @@ use Rattle.edge_trace.specs.declared.form.Form as code
 use Rattle.edge_trace.specs.declared.form.Form.TheVariants as form
 use Rattle.edge_trace.specs.declared.state.State.TheVariants as state
 use Rattle.edge_trace.specs.PlainRows.{IsLineFront, IsRowFront}
+use Rattle.edge_trace.specs.WideFronts.{IsWideFront}
 use Rattle.edge_trace.proofs.PlainFronts.{no_low, no_cr, not_skipped}
-use Rattle.edge_trace.proofs.Reading.{later_row, narrow_read}
+use Rattle.edge_trace.proofs.Reading.{later_row, narrow_read, wide_read}
 
 joined : (seen block : List ℕ) (count : ℕ) → count < length block → get_or block count 0 ≡ 10 → (seen ++ take count block) ++ 10 ∷ [] ≡ seen ++ take (count + 1) block
 joined seen block count less lf =
@@ -90,3 +91,13 @@ module _ (old new : EdgeReader) (kind : code.Form) (before : ℕ) (seen block : 
         stands = row.stands;
         grows = row.grows ∙ ap (λ answers. answers_of seen ++ answers) (answers_edge told);
       }
+
+module _ (old new : EdgeReader) (columns before time : ℕ) (levels : List Bool) (seen block : List ℕ) (count : ℕ) (edges : List Edge) (front : IsWideFront columns before block time levels count) where
+  pub takes_wide_row : StandsFor old seen → old.state ≡ Some (state.Rows (form.Wide columns) before) → length old.line ≡ 0 → time ≤ 10 ^ 15 → count < old.room
+      → new.state ≡ Some (state.Rows (form.Wide columns) time) → new.room ≡ min 512 new.left → new.line ≡ [] → new.ended ≡ min (old.ended + 1) 18446744073709551615 → new.left ≡ old.left - (count + 1)
+      → edges ≡ filter (λ (row : Edge). is_new (get_or old.levels row.line None) row.level) (said_from 0 time levels)
+      → ((line : ℕ) → get_or new.levels line None ≡ cond (nat_lt line (length levels)) (Some (get_or levels line false)) (get_or old.levels line None))
+      → TakesRow new seen (take (count + 1) block) edges
+  takes_wide_row stands state_is empty in_range less new_state room_is line_is ended_is left_is told kept =
+      takes_line old new (form.Wide columns) before time seen block count edges front.front stands state_is empty less new_state room_is line_is ended_is left_is
+      (λ stamps rows e has is_form. wide_read stamps rows before time (take count block) old.levels new.levels edges columns levels e has front.row told kept in_range is_form)

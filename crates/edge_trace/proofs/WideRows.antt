@@ -38,7 +38,7 @@ unchanged : (o : Option (List Bool)) (level : Bool) → texts.◌>>=◌ o (λ le
 unchanged None level = refl
 unchanged (Some levels) level = refl
 
-levels_cons : (field : List ℕ) (others : List (List ℕ)) (level : Bool) → level_in field ≡ Some level → levels_in (field ∷ others) ≡ option_map (λ more. level ∷ more) (levels_in others)
+pub levels_cons : (field : List ℕ) (others : List (List ℕ)) (level : Bool) → level_in field ≡ Some level → levels_in (field ∷ others) ≡ option_map (λ more. level ∷ more) (levels_in others)
 unfolding levels_in
 levels_cons field others level e = rw e (unchanged (levels_in others) level)
 

@@ -5,6 +5,7 @@ pub mod EdgeLists
 pub mod Limits
 pub mod RowEdges
 pub mod PlainRows
+pub mod WideFronts
 pub mod Texts
 pub mod Readings
 pub mod Readers

@@ -6,10 +6,10 @@ use Rattle.edge_trace.specs.Fields.{fields, without_blanks, level_in}
 use Rattle.edge_trace.specs.Rows.{Form, unit_of, narrow_row}
 use Rattle.edge_trace.specs.Readings.{stamp_time, time_behind, IsStamped}
 
--- a text begins with this number, without blanks, and a comma, behind which this stands
-pub record BeginsWithNumber (text : List ℕ) (number : ℕ) (rest : List ℕ) : Type 0 where
+-- a text begins with this number, without blanks, and such a byte, behind which this stands
+pub record BeginsWithNumber (mark : ℕ) (text : List ℕ) (number : ℕ) (rest : List ℕ) : Type 0 where
   pub front : List ℕ
-  pub cut : (front, Some rest) ≡ cut_at 44 text
+  pub cut : (front, Some rest) ≡ cut_at mark text
   pub spelled : number_in front ≡ Some number
   pub no_blanks : without_blanks front ≡ front
 

@@ -26,6 +26,7 @@ mod tests;
 mod texts;
 mod units;
 mod wide;
+mod wide_fronts;
 
 pub use edge_text::edge_line;
 pub use edges_left::EdgesLeft;

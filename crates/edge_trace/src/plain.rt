@@ -1,32 +1,33 @@
 //! Plain rows: digits, digits and a level with commas between them, and no blanks. Nearly all narrow rows
 //! are plain, so these are read in one pass; any other row is judged field by field.
-ghost use Rattle.std.specs.Prelude.{◌≤◌, IfSome};
+ghost use Rattle.std.specs.Prelude.{◌<◌, ◌≤◌, IfSome};
 ghost use Rattle.edge_trace.specs.PlainRows.{BeginsWithNumber, SpellsEdge, IsPlainFront};
 
 use crate::digits::level_of;
 use line_base::Edge;
 
-/// The most bytes of a number of 16 digits and its comma. Such a number fits 64 bits.
+/// The most bytes of a number of 16 digits and the byte behind it. Such a number fits 64 bits.
 const NUMBER_ROOM: usize = 17;
 
 /// The most bytes of a plain row with its LF, and more. Where a text has so many bytes, the loops over digits
 /// have a fixed length.
-const FRONT_ROOM: usize = 40;
+pub(crate) const FRONT_ROOM: usize = 40;
 
 /// The digit `0`. Any byte that is no digit is more than 9 above it, or wraps to more.
 const ZERO: u64 = 48;
 
-/// The number of the digits, at most 16, before the first comma of a text, and what stands behind it.
+/// The number of the digits, at most 16, before the first such byte of a text, and what stands behind that.
 #[inline(always)]
-fn number_before_comma(text: &[u8]) -> Option<(u64, &[u8])>
-    ensures { IfSome result (λ parts. BeginsWithNumber text.now parts.0 parts.1.now) }
+pub(crate) fn number_before(mark: u8, text: &[u8]) -> Option<(u64, &[u8])>
+    requires { mark < 48 }
+    ensures { IfSome result (λ parts. BeginsWithNumber mark text.now parts.0 parts.1.now) }
 {
     let front = &text[..NUMBER_ROOM.min(text.len())];
     let mut number = 0u64;
     for (i, byte) in front.iter().enumerate() {
         let value = u64::from(*byte).wrapping_sub(ZERO);
         if value > 9 {
-            if *byte == b',' && i > 0 {
+            if *byte == mark && i > 0 {
                 return Some((number, &text[i + 1..]));
             }
             return None;
@@ -42,8 +43,8 @@ pub(crate) fn plain_row(content: &[u8]) -> Option<Edge>
     ensures spelled { IfSome result (λ edge. SpellsEdge content.now edge) }
     ensures line { IfSome result (λ edge. edge.line ≤ 15) }
 {
-    let (time, rest) = number_before_comma(content)?;
-    let (line, last) = number_before_comma(rest)?;
+    let (time, rest) = number_before(b',', content)?;
+    let (line, last) = number_before(b',', rest)?;
     if line > 15 {
         return None;
     }
@@ -65,8 +66,8 @@ pub(crate) fn plain_front(text: &[u8]) -> Option<(Edge, usize)>
     if text.len() < FRONT_ROOM {
         return None;
     }
-    let (time, rest) = number_before_comma(text)?;
-    let (line, last) = number_before_comma(rest)?;
+    let (time, rest) = number_before(b',', text)?;
+    let (line, last) = number_before(b',', rest)?;
     if line > 15 || last.len() < 2 || last[1] != b'\n' {
         return None;
     }

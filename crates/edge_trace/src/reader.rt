@@ -6,7 +6,7 @@ ghost use Rattle.std.specs.Prelude.{◌≡◌, ℕ, ◌≤◌, IsTrue, IfSome};
 ghost use Rattle.edge_trace.specs.Readings.{is_in_range};
 
 use crate::form::Form;
-use crate::levels::{Levels, is_edge};
+use crate::levels::{Levels, is_edge, keep_levels};
 use crate::line_bytes::{LINE_LIMIT, LineBytes};
 use crate::lines::read_content;
 use crate::narrow::narrow_front;
@@ -14,6 +14,7 @@ use crate::row::{Row, RowEdges};
 use crate::state::State;
 use crate::texts::{content, length_before};
 use crate::units::units_front;
+use crate::wide_fronts::wide_front;
 use line_base::{Edge, LineFault, MAX_TIME};
 
 /// How many bytes of an input may stand in lines: 2^36 - 1.
@@ -52,7 +53,7 @@ impl EdgeReader {
     ghost use Rattle.edge_trace.specs.Limits.{fault_of, answers_of, whole_fault_of, whole_answers_of, line_number_of, last_line};
     ghost use Rattle.edge_trace.specs.PlainRows.{IsRowFront};
     ghost use Rattle.edge_trace.specs.Readings.{IsAt, IsForm, form_of};
-    ghost use Rattle.edge_trace.specs.Readers.{answers_in, answers_with, StandsFor, GoesOn, HasEnded, Takes, EndsLine, IsLongest};
+    ghost use Rattle.edge_trace.specs.Readers.{answers_in, answers_with, answers_of_row, StandsFor, GoesOn, HasEnded, Takes, EndsLine, IsLongest};
 
     /// A reader of no bytes.
     pub fn new() -> EdgeReader
@@ -157,6 +158,35 @@ impl EdgeReader {
         (count + 1, self.keep_row(form, edge, count))
     }
 
+    /// Takes the plain wide row that stands whole at the front of a block, with its LF, and gives how many bytes
+    /// it has and its edges. It takes 0 bytes where there is none with nine decimals and without blanks, where
+    /// the list isn't of wide rows, where a line is begun, and where the row isn't fault-free: those bytes are
+    /// for `feed` and `take_run`. It also leaves a row in the last 40 bytes of a block to them.
+    #[inline]
+    pub fn take_wide_row(&mut self, block: &[u8]) -> (usize, RowEdges)
+        ensures fits { result.0 ≤ length block.now }
+        ensures stands { (seen : List ℕ) → StandsFor self.old seen → StandsFor self.new (seen ++ take result.0 block.now) }
+        ensures grows { (seen : List ℕ) → StandsFor self.old seen → answers_of (seen ++ take result.0 block.now) ≡ answers_of seen ++ answers_of_row result.1 }
+        ensures ended { (number : ℕ) → HasEnded self.old number → (result.0 ≡ 0) × (result.1 ≡ []) × HasEnded self.new number }
+    {
+        let mut edges = RowEdges::new();
+        if self.line.len() != 0 {
+            return (0, edges);
+        }
+        let Some(State::Rows(Form::Wide(columns), before)) = self.state else {
+            return (0, edges);
+        };
+        let Some((time, row, count)) = wide_front(columns, before, block) else {
+            return (0, edges);
+        };
+        if self.room <= count {
+            return (0, edges);
+        }
+        keep_levels(time, row.as_slice(), &mut self.levels, &mut edges);
+        self.begin_behind(count, State::Rows(Form::Wide(columns), time));
+        (count + 1, edges)
+    }
+
     /// Begins the next line behind a narrow row of so many bytes. Gives its edge, if it is one.
     #[inline(always)]
     fn keep_row(&mut self, form: Form, edge: Edge, count: usize) -> Option<Edge>
@@ -173,8 +203,7 @@ impl EdgeReader {
         ensures levels { (line : ℕ) → slice_index_or self.new.levels line None ≡ (if edge.line == line then Some edge.level else slice_index_or self.old.levels line None) }
     {
         let told = is_edge(edge, &mut self.levels);
-        self.left = self.left.saturating_sub(count as u64).saturating_sub(1);
-        self.begin_line(State::Rows(form, edge.time));
+        self.begin_behind(count, State::Rows(form, edge.time));
         if told { Some(edge) } else { None }
     }
 
@@ -273,6 +302,21 @@ impl EdgeReader {
                 }
             }
         }
+    }
+
+    /// Begins the next line behind a row of so many bytes that was taken whole.
+    #[inline(always)]
+    fn begin_behind(&mut self, count: usize, next: State)
+        requires { IsTrue (is_in_range (Some next)) }
+        ensures state { self.new.state ≡ Some next }
+        ensures room { self.new.room ≡ min 512 self.new.left }
+        ensures line { self.new.line ≡ [] }
+        ensures number { self.new.ended ≡ min (self.old.ended + 1) 18446744073709551615 }
+        ensures left { self.new.left ≡ self.old.left - (count + 1) }
+        ensures levels { self.new.levels ≡ self.old.levels }
+    {
+        self.left = self.left.saturating_sub(count as u64).saturating_sub(1);
+        self.begin_line(next);
     }
 
     /// Begins the next line, where the list has come so far.

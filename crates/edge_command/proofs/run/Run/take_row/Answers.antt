@@ -1,28 +1,22 @@
--- A plain row is read, and its edge is taken.
-use Rattle.std.proofs.Common.{◌∷◌, [], ◌++◌, take, refl, arith}
-use Rattle.edge_trace.specs.Limits.{edges_of}
-use Rattle.edge_trace.proofs.OrderedLists.{edges_are_few}
-use Rattle.edge_command.specs.Runs.{decoding_of}
-use Rattle.edge_command.proofs.TakeBytes.{none-took, row-took, row-cut}
-use Rattle.edge_command.proofs.Blocks.{cut-in}
+-- A row is taken, narrow or wide.
+use Rattle.std.proofs.Common.{◌++◌, take, arith}
+use Rattle.std.proofs.lemmas.Result.{err_from_is_err_and}
+use Rattle.edge_command.proofs.Blocks.{none-then, none-then-stopped}
 use Rattle.edge_command.proofs.run.Run.take_row.Goals as goal
 
-pub returns-in_default-clause-took : goal.returns-in_default-clause-took
-returns-in_default-clause-took g c = λ bytes before.
-    none-took c.args.self.now _ _ bytes (bytes ++ take c.take_row-count.result.0 c.args.block.now) before refl refl (c.take_row-count.ensures.stands bytes before.lines) (rw c.in_default.is at (c.take_row-count.ensures.grows bytes before.lines))
+pub take_wide_row-requires : goal.take_wide_row-requires
+take_wide_row-requires g c = (c.requires.0 ++ take c.in_ok-count.count c.args.block.now, (c.in_ok-count.ensures.took c.requires.0 c.requires.1).reads)
 
-pub put_edge-requires-clause-follow : goal.put_edge-requires-clause-follow
-put_edge-requires-clause-follow g c = (edges_of c.requires.0, c.requires.1.follow, omega (arith, edges_are_few c.requires.0))
+pub returns-in_err-wide-clause-stopped : goal.returns-in_err-wide-clause-stopped
+returns-in_err-wide-clause-stopped g c =
+    let p = err_from_is_err_and c.from_residual-in_err-wide.result c.from_residual-in_err-wide.ensures.1 in
+    rw (p.1, p.2) (λ bytes reads.
+    none-then-stopped c.args.self.now c.take_narrow_row.new.self c.in_err-wide.field-0.0 (g.K.Sink.got c.args.out.now) (g.K.Sink.got c.take_narrow_row.new.out) _ (g.K.Sink.faults c.args.out.now) (g.K.Sink.faults c.take_narrow_row.new.out) c.args.block.now c.in_ok-count.count bytes (omega arith)
+    (record { decoding = c.take_narrow_row.ensures.decoding; took = c.in_ok-count.ensures.took; kept = c.in_ok-count.ensures.output })
+    reads c.in_err-wide.ensures.stopped)
 
-pub returns-in-Ok-clause-took : goal.returns-in-Ok-clause-took
-returns-in-Ok-clause-took g c = λ bytes before.
-    row-took c.args.self.now c.take_row-count.new.self c.put_edge.new.self _ _ bytes (bytes ++ take c.take_row-count.result.0 c.args.block.now) (c.in-Some.edge ∷ []) before c.put_edge.ensures.lines
-    (c.take_row-count.ensures.stands bytes before.lines) (rw c.in-Some.is at (c.take_row-count.ensures.grows bytes before.lines))
-    (c.in-Ok.ensures.follow (edges_of bytes) before.follow)
-    (c.in-Ok.ensures.written (edges_of bytes) before.follow)
-
-pub returns-in-Err-clause-stopped : goal.returns-in-Err-clause-stopped
-returns-in-Err-clause-stopped g c = λ bytes before.
-    cut-in (decoding_of c.args.self.now) _ _ bytes c.args.block.now c.take_row-count.result.0
-    (row-cut (decoding_of c.args.self.now) _ _ bytes (bytes ++ take c.take_row-count.result.0 c.args.block.now) (c.in-Some.edge ∷ []) (rw c.in-Some.is at (c.take_row-count.ensures.grows bytes before.lines))
-    (c.in-Err.ensures.cut (edges_of bytes) before.follow))
+pub returns-clause-took : goal.returns-clause-took
+returns-clause-took g c = λ bytes reads.
+    (none-then c.args.self.now c.take_narrow_row.new.self c.take_wide_row.new.self (g.K.Sink.got c.args.out.now) (g.K.Sink.got c.take_narrow_row.new.out) _ (g.K.Sink.faults c.args.out.now) (g.K.Sink.faults c.take_narrow_row.new.out) _ c.args.block.now c.in_ok-count.count c.in_ok-wide.wide (omega arith)
+    (record { decoding = c.take_narrow_row.ensures.decoding; took = c.in_ok-count.ensures.took; kept = c.in_ok-count.ensures.output })
+    (record { decoding = c.take_wide_row.ensures.decoding; took = c.in_ok-wide.ensures.took; kept = c.in_ok-wide.ensures.output })).took bytes reads
