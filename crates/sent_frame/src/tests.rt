@@ -57,7 +57,11 @@ fn reports(
             reports.push(step)?;
         }
         number = number.saturating_add(1);
-        assert_eq!(rt; reader.push(number, rise), SentStep::Nothing, "a rise tells nothing");
+        assert_eq!(rt;
+            reader.push(number, rise),
+            SentStep::Nothing,
+            "a rise tells nothing"
+        );
     }
     Ok(reports)
 }
