@@ -33,35 +33,36 @@ fn bad(place: u64, rule: Rule) -> SentStep {
     SentStep::Bad { place, rule }
 }
 
+/// Adds what an edge ended, if it ended anything.
+fn add(reports: &mut Vec<SentStep>, step: SentStep) -> Result<(), AllocError> {
+    if step != SentStep::Nothing {
+        reports.push(step)?;
+    }
+    Ok(())
+}
+
 /// The reports of a line that opens high at 0 ns, falls at these times in ns and rises so many ns after
 /// each. Fall number k, counted from 1, is edge 2k - 1.
 fn reports(
-    rt: &HostRuntime,
+    alloc: Global,
     setup: SentSetup,
     falls: &[u32],
     low: u32,
-) -> Result<Vec<SentStep>, Fail> {
+) -> Result<Vec<SentStep>, AllocError> {
     let sender = Sender {
         line: 0,
         low: u64::from(low),
     };
     let mut reader = SentReader::new(setup);
-    let mut reports = Vec::new(rt.alloc());
+    let mut reports = Vec::new(alloc);
     reader.push(0, sender.opening(0));
     let mut number: u64 = 0;
     for time in falls {
         let (fall, rise) = sender.fall(u64::from(*time));
         number = number.saturating_add(1);
-        let step = reader.push(number, fall);
-        if step != SentStep::Nothing {
-            reports.push(step)?;
-        }
+        add(&mut reports, reader.push(number, fall))?;
         number = number.saturating_add(1);
-        assert_eq!(rt;
-            reader.push(number, rise),
-            SentStep::Nothing,
-            "a rise tells nothing"
-        );
+        add(&mut reports, reader.push(number, rise))?;
     }
     Ok(reports)
 }
@@ -77,7 +78,7 @@ fn a_frame_is_good_where_its_crc_is_that_of_the_setup(rt: HostRuntime) -> Result
         (CrcForm::Legacy, &legacy_zeros, good(&rt, 19, 0, 0)),
     ];
     for (crc, falls, expected) in cases {
-        let found = reports(&rt, setup(&rt, false, crc), falls, 15_000)?;
+        let found = reports(rt.alloc(), setup(&rt, false, crc), falls, 15_000)?;
         assert_eq!(rt;
             found.as_slice(),
             [expected].as_slice(),
@@ -127,7 +128,7 @@ fn values_are_read_through_the_greatest_jitter(rt: HostRuntime) -> Result<(), Fa
         299_700, 434_700, 498_900, 564_300, 628_500, 693_900, 758_100, 823_500, 887_700, 941_100,
     ];
     let setup = setup(&rt, false, CrcForm::New);
-    let found = reports(&rt, setup, &falls, 12_000)?;
+    let found = reports(rt.alloc(), setup, &falls, 12_000)?;
     assert_eq!(rt; found.as_slice(), [good(&rt, 19, 15, 15)].as_slice());
     Ok(())
 }
@@ -158,7 +159,7 @@ fn a_pause_of_774_ticks_is_the_longest_and_one_of_56_may_start_falsely(
     ];
     for (falls, expected) in cases {
         let setup = setup(&rt, true, CrcForm::New);
-        let found = reports(&rt, setup, falls, 15_000)?;
+        let found = reports(rt.alloc(), setup, falls, 15_000)?;
         assert_eq!(rt; found.as_slice(), expected, "{falls:?}");
     }
     Ok(())
@@ -200,7 +201,7 @@ fn a_fault_loses_no_later_frame(rt: HostRuntime) -> Result<(), Fail> {
     ];
     for (falls, expected) in cases {
         let setup = setup(&rt, false, CrcForm::New);
-        let found = reports(&rt, setup, falls, 12_000)?;
+        let found = reports(rt.alloc(), setup, falls, 12_000)?;
         assert_eq!(rt; found.as_slice(), expected, "{falls:?}");
     }
     Ok(())
