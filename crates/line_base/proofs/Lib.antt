@@ -9,3 +9,4 @@ pub mod Writes
 pub mod Cuts
 pub mod Numbers
 pub mod Decimals
+pub mod KeptSpans

@@ -6,6 +6,7 @@ pub mod Rules
 pub mod Faults
 pub mod Reasons
 pub mod Nibbles
+pub mod Spans
 pub mod Edges
 pub mod Orderly
 pub mod Readers

@@ -15,6 +15,7 @@ mod rule;
 mod sender;
 mod sink;
 mod source;
+mod spans;
 mod std_streams;
 #[cfg(test)]
 mod tests;
@@ -30,4 +31,5 @@ pub use rule::Rule;
 pub use sender::Sender;
 pub use sink::Sink;
 pub use source::Source;
+pub use spans::Spans;
 pub use std_streams::{StdSink, StdSource};

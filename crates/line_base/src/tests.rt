@@ -315,3 +315,14 @@ fn a_put_hands_over_all_its_bytes_at_once(rt: HostRuntime) {
     );
     assert_eq!(rt; (device.calls, device.asked), (3, 4));
 }
+
+#[test]
+fn spans_are_at_most_eight(rt: HostRuntime) {
+    let span = Span { low: 3, high: 9 };
+    let mut spans = Spans::new(&[span]).expect(&rt, "one span");
+    spans.push(Span { low: 12, high: 12 });
+    let expected = [span, Span { low: 12, high: 12 }];
+    assert_eq!(rt; spans.as_slice(), expected.as_slice());
+    assert!(rt; Spans::new(&[span; 8]).is_some());
+    assert!(rt; Spans::new(&[span; 9]).is_none());
+}

@@ -7,3 +7,4 @@ pub mod Nibbles
 pub mod Registers
 pub mod Remainders
 pub mod Thresholds
+pub mod Periods

@@ -118,3 +118,29 @@ fn the_crc_and_the_parity_of_a_psi5_frame_are_those_of_the_worked_vectors(rt: Ho
         assert_eq!(rt; parity(bits), odd, "{bits:?}");
     }
 }
+
+#[test]
+fn a_distance_is_to_the_nearest_sync_period_and_six_from_five_and_a_half_on(rt: HostRuntime) {
+    let firsts = [
+        250_000u64, 750_000, 1_250_000, 1_750_000, 2_250_000, 2_750_000,
+    ];
+    let mut periods = 0;
+    for first in firsts {
+        assert!(rt; 1 <= first && first <= 1_000_000_000);
+        assert_eq!(rt; periods_of(first - 1, 500_000), periods, "up to {first} ns");
+        periods = (periods + 1) % 7;
+        assert_eq!(rt; periods_of(first, 500_000), periods, "from {first} ns");
+    }
+    assert_eq!(rt; periods_of(0, 500_000), 0);
+    assert_eq!(rt; periods_of(3_500_000, 500_000), 6);
+    assert_eq!(rt; periods_of(1_000_000_000_000_000, 1), 6);
+    assert_eq!(rt; periods_of(1_000_000_000_000_000, 4_294_967_295), 6);
+}
+
+#[test]
+fn half_of_an_odd_period_falls_between_two_ns(rt: HostRuntime) {
+    assert_eq!(rt; periods_of(5_000, 10_001), 0);
+    assert_eq!(rt; periods_of(5_001, 10_001), 1);
+    assert_eq!(rt; periods_of(55_005, 10_001), 5);
+    assert_eq!(rt; periods_of(55_006, 10_001), 6);
+}
