@@ -14,3 +14,5 @@ pub mod Standing
 pub mod Violations
 pub mod Walks
 pub mod Waveforms
+pub mod Counts
+pub mod Fitting

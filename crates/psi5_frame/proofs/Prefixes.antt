@@ -34,7 +34,7 @@ run_of-append (x ∷ xs) ys some = run_of-cons x (xs ++ ys) ∙ by_first (begins
     by_first false some rest = ap (λ l. x ∷ l) (rest some)
 
 -- what one more edge at the front changes, where a burst begins behind it
-complete-cons : (s : Settings) (x : Change) (xs : List Change) → has_start xs ≡ true
+pub complete-cons : (s : Settings) (x : Change) (xs : List Change) → has_start xs ≡ true
     → complete_bursts s (x ∷ xs) ≡ (if begins x then judged s x (run_of xs) ∷ [] else []) ++ complete_bursts s xs
 unfolding complete_bursts
 complete-cons s x xs some = rw some (by_first (begins x))
@@ -43,7 +43,7 @@ complete-cons s x xs some = rw some (by_first (begins x))
     by_first true = refl
     by_first false = refl
 
-all-cons : (s : Settings) (x : Change) (xs : List Change) → all_bursts s (x ∷ xs) ≡ (if begins x then judged s x (run_of xs) ∷ [] else []) ++ all_bursts s xs
+pub all-cons : (s : Settings) (x : Change) (xs : List Change) → all_bursts s (x ∷ xs) ≡ (if begins x then judged s x (run_of xs) ∷ [] else []) ++ all_bursts s xs
 unfolding all_bursts
 all-cons s x xs = by_first (begins x)
   where
@@ -52,7 +52,7 @@ all-cons s x xs = by_first (begins x)
     by_first false = refl
 
 -- nothing is told of an edge and of some behind it that begin no burst
-open-complete : (s : Settings) (x : Change) (xs : List Change) → has_start xs ≡ false → complete_bursts s (x ∷ xs) ≡ []
+pub open-complete : (s : Settings) (x : Change) (xs : List Change) → has_start xs ≡ false → complete_bursts s (x ∷ xs) ≡ []
 unfolding complete_bursts
 open-complete s x xs none = rw (none, (no_bursts s xs none).complete) (by_first (begins x))
   where

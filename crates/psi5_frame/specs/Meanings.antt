@@ -10,7 +10,7 @@ use Rattle.psi5_frame.specs.declared.burst.Burst.TheVariants.{Good, Bad}
 use Rattle.psi5_frame.specs.Intervals.{half_bits}
 use Rattle.psi5_frame.specs.Setup.{Settings, bit_count, payload_width}
 use Rattle.psi5_frame.specs.Edges.{Change}
-use Rattle.psi5_frame.specs.Frames.{check_number}
+use Rattle.psi5_frame.specs.Frames.{Fits, check_number}
 use Rattle.psi5_frame.specs.Waveforms.{Alternate, IsFrameBurst}
 use Rattle.psi5_frame.specs.Bursts.{last_of, place_after, burst_bits}
 
@@ -133,3 +133,8 @@ pub record HasViolation (s : Settings) (edges : List Change) (number : ℕ) (rul
 abbrev pub Means : Settings → List Change → Burst → Type 0
 Means s edges (Good number payload) = HasFrame s edges number payload
 Means s edges (Bad number rule) = HasViolation s edges number rule
+
+-- the values of a good burst fit the widths of their parts
+abbrev pub BurstFits : Settings → Burst → Type 0
+BurstFits s (Good number payload) = Fits s.parts payload
+BurstFits s (Bad number rule) = Unit {0}

@@ -21,6 +21,9 @@ mod tests;
 
 pub use bits::{bits_of, edges_of};
 pub use burst::{Burst, BurstStep, Payload};
-pub use meaning::{bursts_grow, bursts_have_meaning, good_bursts_are_waveforms, waveforms_differ};
+pub use meaning::{
+    bursts_are_counted, bursts_grow, bursts_have_meaning, good_bursts_are_waveforms, payloads_fit,
+    waveforms_differ,
+};
 pub use reader::BurstReader;
 pub use setup::{Check, Parts, Psi5Setup};

@@ -1,5 +1,5 @@
 //! What the bursts of a line's edges stand for.
-ghost use Rattle.std.specs.Prelude.{◌≡◌, ◌++◌, All, List, ℕ, false};
+ghost use Rattle.std.specs.Prelude.{◌≡◌, ◌-◌, ◌++◌, All, List, ℕ, false, length};
 ghost use Rattle.line_base.specs.Edges.{NumberedEdge};
 ghost use Rattle.line_base.specs.Streams.{IsFrontOf};
 ghost use Rattle.psi5_frame.specs.Setup.{Settings};
@@ -7,7 +7,7 @@ ghost use Rattle.psi5_frame.specs.Edges.{Change, changes_of};
 ghost use Rattle.psi5_frame.specs.Frames.{Fits, frame_of, waveform};
 ghost use Rattle.psi5_frame.specs.Waveforms.{Alternate, IsFrameBurst};
 ghost use Rattle.psi5_frame.specs.Bursts.{burst_starts, bursts_at_end, bursts_so_far, has_start, judged, last_of};
-ghost use Rattle.psi5_frame.specs.Meanings.{Means};
+ghost use Rattle.psi5_frame.specs.Meanings.{BurstFits, Means};
 
 use crate::burst::{Burst, Payload};
 
@@ -38,4 +38,16 @@ pub fn bursts_grow()
     ensures bursts { (s : Settings) (edges more : List NumberedEdge) → IsFrontOf (bursts_so_far s edges) (bursts_so_far s (edges ++ more)) }
     ensures starts { (s : Settings) (edges more : List NumberedEdge) → IsFrontOf (burst_starts s edges) (burst_starts s (edges ++ more)) }
     ensures at_end { (s : Settings) (edges more : List NumberedEdge) → IsFrontOf (bursts_so_far s edges) (bursts_at_end s (edges ++ more)) }
+{}
+
+/// Does nothing; its contract is a law. There is one burst for each edge that begins one, and of those so far
+/// the last isn't complete.
+pub fn bursts_are_counted()
+    ensures so_far { (s : Settings) (edges : List NumberedEdge) → length (bursts_so_far s edges) ≡ length (burst_starts s edges) - 1 }
+    ensures at_end { (s : Settings) (edges : List NumberedEdge) → length (bursts_at_end s edges) ≡ length (burst_starts s edges) }
+{}
+
+/// Does nothing; its contract is a law. The values of a good burst fit the widths of their parts.
+pub fn payloads_fit()
+    ensures { (s : Settings) (edges : List NumberedEdge) → All (BurstFits s) (bursts_at_end s edges) }
 {}

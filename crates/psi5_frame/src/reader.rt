@@ -188,6 +188,23 @@ impl BurstReader {
         begin(&self.setup, &mut self.state, number, edge)
     }
 
+    /// Takes the next edge of the line, with its number in the channel, where it goes on with the burst of the
+    /// edge before it, and answers whether it does; then no burst is complete and none begins. If not, nothing
+    /// changes. Its time is at most 10^15 ns.
+    #[inline(always)]
+    pub fn passes(&mut self, number: u64, edge: Edge) -> bool
+        requires { edge.time ≤ 10 ^ 15 }
+        ensures stands { IsTrue result → (setup : Settings) (seen : List NumberedEdge) → StandsFor setup self.old seen
+            → StandsFor setup self.new (seen ++ record { number = number; edge = edge } ∷ []) }
+        ensures quiet { IsTrue result → (setup : Settings) (seen : List NumberedEdge) → StandsFor setup self.old seen
+            → bursts_so_far setup (seen ++ record { number = number; edge = edge } ∷ []) ≡ bursts_so_far setup seen }
+        ensures starts { IsTrue result → (setup : Settings) (seen : List NumberedEdge) → StandsFor setup self.old seen
+            → burst_starts setup (seen ++ record { number = number; edge = edge } ∷ []) ≡ burst_starts setup seen }
+        ensures left { result ≡ false → self.new ≡ self.old }
+    {
+        goes_on(&self.setup, self.count, &mut self.state, number, edge)
+    }
+
     /// The line has ended: the burst that isn't complete is judged, if there is one. Then forgets all edges.
     pub fn finish(&mut self) -> Option<Burst>
         ensures stands { (setup : Settings) (seen : List NumberedEdge) → StandsFor setup self.old seen → StandsFor setup self.new [] }

@@ -127,7 +127,7 @@ impl Psi5Setup {
     }
 
     /// How many bits a frame has, with start and check, 13 to 33.
-    pub(crate) fn bit_count(&self) -> u8
+    pub fn bit_count(&self) -> u8
         ensures value { result ≡ bit_count self.now }
         ensures some { 13 ≤ result }
         ensures few { result ≤ 33 }

@@ -3,3 +3,4 @@ pub mod PhaseSteps
 pub mod Standing
 pub mod Stays
 pub mod Telling
+pub mod Rules

@@ -1,8 +1,10 @@
 -- What the codes of a phase come to that are read from any place on; this project's own.
 use Rattle.std.specs.Prelude.{ℕ, ◌+◌, ◌-◌, ◌*◌, ◌/◌, ◌%◌, Bool, ◌&&◌, nat_eq, nat_le, if◌then◌else◌, List, count_by, length, map, slice_index}
 use Rattle.std.specs.List.{range_with_len}
+use Rattle.line_base.specs.declared.rule.Rule.{Rule}
+use Rattle.line_base.specs.declared.rule.Rule.TheVariants as rule
 use Rattle.psi5_init.specs.declared.step.InitStep.{InitStep}
-use Rattle.psi5_init.specs.declared.step.InitStep.TheVariants.{Nothing, Block, Done}
+use Rattle.psi5_init.specs.declared.step.InitStep.TheVariants.{Nothing, Block, Done, Bad}
 use Rattle.psi5_init.specs.Phases.{id_at}
 
 -- the first place of the block at this index, where each block is sent so many times
@@ -35,3 +37,41 @@ told_at repeats from nibbles place =
 -- what the codes of a phase of these nibbles come to, from place `from` to the last
 abbrev pub told : ℕ → ℕ → List ℕ → List InitStep
 told repeats from nibbles = map (told_at repeats from nibbles) (range_with_len from (place_of repeats (length nibbles) + 1 - from))
+
+-- the rule is one of an initialisation
+abbrev pub IsInitRule : Rule → Type 0
+IsInitRule rule.NoCalibration = ⊥
+IsInitRule rule.Drift = ⊥
+IsInitRule rule.NibbleRange = ⊥
+IsInitRule rule.Check = ⊥
+IsInitRule rule.PauseRange = ⊥
+IsInitRule rule.Copy = ⊥
+IsInitRule rule.Restart = ⊥
+IsInitRule rule.Zero13 = ⊥
+IsInitRule rule.Zero18 = ⊥
+IsInitRule rule.SerialCheck = ⊥
+IsInitRule rule.TriggerWidth = ⊥
+IsInitRule rule.Delay = ⊥
+IsInitRule rule.FirstFall = ⊥
+IsInitRule rule.TooShort = ⊥
+IsInitRule rule.Phase = ⊥
+IsInitRule rule.StartBit = ⊥
+IsInitRule rule.TooLong = ⊥
+IsInitRule rule.TooFew = ⊥
+IsInitRule rule.EndsHigh = ⊥
+IsInitRule rule.Psi5Check = ⊥
+IsInitRule rule.NoSync = ⊥
+IsInitRule rule.NoSlot = ⊥
+IsInitRule rule.SlotTwice = ⊥
+IsInitRule rule.InitOrder = Unit {0}
+IsInitRule rule.InitRepeat = Unit {0}
+IsInitRule rule.SyncBit = ⊥
+IsInitRule rule.DownCheck = ⊥
+IsInitRule rule.StartPattern = ⊥
+
+-- the step violates no rule but one of an initialisation
+abbrev pub IsInitStep : InitStep → Type 0
+IsInitStep Nothing = Unit {0}
+IsInitStep (Block id value) = Unit {0}
+IsInitStep (Done blocks) = Unit {0}
+IsInitStep (Bad broken) = IsInitRule broken

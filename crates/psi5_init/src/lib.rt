@@ -15,7 +15,7 @@ mod step;
 mod tests;
 
 pub use code::{Code, class_of};
-pub use meaning::{phases_are_read, steps_stay};
+pub use meaning::{phases_are_read, steps_break_two_rules, steps_stay};
 pub use phase::code_at;
 pub use reader::InitReader;
 pub use step::InitStep;

@@ -94,7 +94,7 @@ fn after_idle(code: Code) -> (State, InitStep)
 fn after_id(repeats: u8, block: OpenBlock, code: Code) -> (State, InitStep)
     requires few { repeats ≤ 16 }
     requires pairs { block.pairs < repeats }
-    requires blocks { block.blocks < 2 ^ 41 }
+    requires blocks { block.blocks < 2 ^ 61 }
     ensures led { record { step = result.1; next = standing_of result.0 } ≡ readings.after_id repeats (block_of block) code }
     ensures valid { IsState repeats result.0 }
     ensures blocks { blocks_in result.0 ≤ block.blocks + 1 }
@@ -165,7 +165,7 @@ fn after_code(repeats: u8, state: State, code: Code) -> (State, InitStep)
     requires some { 1 ≤ repeats }
     requires few { repeats ≤ 16 }
     requires valid { IsState repeats state }
-    requires blocks { blocks_in state < 2 ^ 41 }
+    requires blocks { blocks_in state < 2 ^ 61 }
     ensures led { record { step = result.1; next = standing_of result.0 } ≡ readings.led_by repeats (standing_of state) code }
     ensures valid { IsState repeats result.0 }
     ensures blocks { blocks_in result.0 ≤ blocks_in state + 1 }
@@ -181,7 +181,7 @@ fn after_code(repeats: u8, state: State, code: Code) -> (State, InitStep)
 /// Reads the blocks of an initialisation phase from codes, one at a time. Contracts see how often a block is
 /// sent and where the reader stands, and say by `StandsFor` which list of codes it stands for. After a fault
 /// it stands where the reading goes on.
-#[derive(Debug, Drop)]
+#[derive(Clone, Copy, Debug, PartialEq, Eq)]
 pub struct InitReader {
     repeats: u8,
     state: State,
@@ -197,6 +197,8 @@ impl Model for InitReader {
     ghost view = { λ r. (r.repeats, r.state) };
 
     ghost invariant = { λ r. IsKept r.repeats r.state };
+
+    ghost inverse = { λ v. record { repeats = v.0; state = v.1 } };
 }
 
 impl InitReader {
@@ -214,10 +216,10 @@ impl InitReader {
         }
     }
 
-    /// Takes the next code, before which fewer than 2^40 were taken since the reader was new or reset, and
+    /// Takes the next code, before which fewer than 2^60 were taken since the reader was new or reset, and
     /// answers what it ends.
     pub fn push(&mut self, code: Code) -> InitStep
-        requires { (repeats : ℕ) × (seen : List Code) × StandsFor repeats self.old seen × (length seen < 2 ^ 40) }
+        requires { (repeats : ℕ) × (seen : List Code) × StandsFor repeats self.old seen × (length seen < 2 ^ 60) }
         ensures stands { (repeats : ℕ) (seen : List Code) → StandsFor repeats self.old seen → StandsFor repeats self.new (seen ++ code ∷ []) }
         ensures grows { (repeats : ℕ) (seen : List Code) → StandsFor repeats self.old seen → init_reading repeats (seen ++ code ∷ []) ≡ init_reading repeats seen ++ result ∷ [] }
     {
