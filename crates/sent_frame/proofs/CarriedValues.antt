@@ -1,14 +1,17 @@
 -- What the pulses after a calibration pulse say, in the pulses themselves.
 --     values_mean      the values that a list of pulses carries, or the pulse that carries none
 --     is_sent          as many values as a frame has are a frame and its last nibble
-use Rattle.std.proofs.Common.{◌≡◌, ℕ, zero, suc, ◌+◌, ◌<◌, List, [], ◌∷◌, ◌++◌, true, Option, None, Some, length, take, slice_index, refl, ap, sym, ◌∙◌, subst, arith}
+--     checks-good, checks-wrong      the frame that they come to by its check
+use Rattle.std.proofs.Common.{◌≡◌, ℕ, zero, suc, ◌+◌, ◌<◌, List, [], ◌∷◌, ◌++◌, true, false, ◌==◌, Option, None, Some, length, take, slice_index, refl, ap, sym, ◌∙◌, subst, arith}
+use Rattle.std.proofs.lemmas.Bool.{eqb-false, eqb-true}
 use Rattle.std.proofs.lemmas.List.{length-take-le, take_all, take_more}
 use Rattle.link_math.specs.Sent.{Carries, value_of}
 use Rattle.link_math.proofs.Nibbles.{value_carries, no_value}
+use Rattle.sent_frame.specs.declared.crc.Cover.{Cover}
 use Rattle.sent_frame.specs.Setup.{Settings}
 use Rattle.sent_frame.specs.Pulses.{Pulse}
-use Rattle.sent_frame.specs.Reading.{Values, Carried, Broken, Short, values_of, with_value, may_calibrate, place_at}
-use Rattle.sent_frame.specs.Frames.{AreCarried, IsSent}
+use Rattle.sent_frame.specs.Reading.{Values, Carried, Broken, Short, values_of, with_value, may_calibrate, covered, crc_of, place_at}
+use Rattle.sent_frame.specs.Frames.{AreCarried, IsFrameOver, IsSent, IsWrongOver}
 
 -- so many pulses are there at the front, and carry these values
 pub record IsCarried (c count : ℕ) (pulses : List Pulse) (values : List ℕ) : Type 0 where
@@ -82,3 +85,21 @@ is_sent s calibration pulses status values calibrates there =
       carried = subst (λ (rest : List ℕ). AreCarried calibration.length (take (suc (suc s.nibbles)) pulses) (status ∷ rest)) (last_apart s.nibbles values (omega arith)) there.carried;
       ends = place_in_front (suc s.nibbles) (suc (suc s.nibbles)) pulses (omega arith);
     }
+
+-- where the last nibble is the CRC of what it covers, they are the frame
+pub checks-good : (cover : Cover) (s : Settings) (calibration : Pulse) (pulses : List Pulse) (status : ℕ) (values : List ℕ) → may_calibrate s calibration ≡ true → IsCarried calibration.length (suc (suc s.nibbles)) pulses (status ∷ values)
+    → (crc_of s.crc (covered cover status (take s.nibbles values)) == slice_index values s.nibbles) ≡ true
+    → IsFrameOver cover s calibration (take (suc (suc s.nibbles)) pulses) (record { status = status; nibbles = take s.nibbles values }) (place_at pulses (suc s.nibbles))
+checks-good cover s calibration pulses status values calibrates there right =
+    subst (λ (crc : ℕ). IsSent s calibration (take (suc (suc s.nibbles)) pulses) (record { status = status; nibbles = take s.nibbles values }) crc (place_at pulses (suc s.nibbles)))
+    (sym (eqb-true (crc_of s.crc (covered cover status (take s.nibbles values))) (slice_index values s.nibbles) right)) (is_sent s calibration pulses status values calibrates there)
+
+-- and else their check is wrong
+pub checks-wrong : (cover : Cover) (s : Settings) (calibration : Pulse) (pulses : List Pulse) (status : ℕ) (values : List ℕ) → may_calibrate s calibration ≡ true → IsCarried calibration.length (suc (suc s.nibbles)) pulses (status ∷ values)
+    → (crc_of s.crc (covered cover status (take s.nibbles values)) == slice_index values s.nibbles) ≡ false → IsWrongOver cover s calibration (take (suc (suc s.nibbles)) pulses) (place_at pulses (suc s.nibbles))
+checks-wrong cover s calibration pulses status values calibrates there wrong = record {
+  frame = record { status = status; nibbles = take s.nibbles values };
+  crc = slice_index values s.nibbles;
+  sent = is_sent s calibration pulses status values calibrates there;
+  wrong = λ same. eqb-false (crc_of s.crc (covered cover status (take s.nibbles values))) (slice_index values s.nibbles) wrong (sym same);
+}

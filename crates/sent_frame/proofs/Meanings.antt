@@ -2,7 +2,6 @@
 --     reports_mean        the reports of a list of pulses, each in these pulses
 --     later_mean          what holds of each report of a list holds of each of the last ones
 use Rattle.std.proofs.Common.{◌≡◌, ℕ, suc, List, [], ◌∷◌, ◌++◌, Bool, true, false, not, inl, inr, ◌==◌, cond, if◌then◌else◌, length, take, drop, slice_index, refl, ap, sym, ◌∙◌, subst, append-nil, arith}
-use Rattle.std.proofs.lemmas.Bool.{eqb-false, eqb-true}
 use Rattle.std.proofs.lemmas.List.{drop_at, take-append-drop}
 use Rattle.std.proofs.lemmas.List.Elements.{All-drop, All-nil, All-same}
 use Rattle.std.specs.List.{All}
@@ -11,13 +10,14 @@ use Rattle.line_base.proofs.ReportMeanings.{FoundHas, read-all}
 use Rattle.line_base.specs.Readings.Found.{Past, Reported}
 use Rattle.line_base.specs.declared.rule.Rule.TheVariants as rule
 use Rattle.link_math.specs.Sent.{is_steady, is_pause}
+use Rattle.sent_frame.specs.declared.crc.Cover.TheVariants as over
 use Rattle.sent_frame.specs.declared.frame.SentStep.{SentStep}
 use Rattle.sent_frame.specs.declared.frame.SentStep.TheVariants.{Good, Bad}
 use Rattle.sent_frame.specs.Setup.{Settings}
 use Rattle.sent_frame.specs.Pulses.{Pulse}
 use Rattle.sent_frame.specs.Reading.{Standing, Hunting, PauseDue, CalibrationDue, Values, Carried, Broken, Short, crc_of, may_calibrate, place_at, frame_of, frame_from, hunted, found, found_hunting, reports_of}
-use Rattle.sent_frame.specs.Frames.{BeginsFrame, IsSent, EndsInFrame, EndsInPause, Means}
-use Rattle.sent_frame.proofs.CarriedValues.{IsCarried, ValuesMean, values_mean, is_sent}
+use Rattle.sent_frame.specs.Frames.{BeginsFrame, EndsInFrame, EndsInPause, Means}
+use Rattle.sent_frame.proofs.CarriedValues.{IsCarried, ValuesMean, values_mean, is_sent, checks-good, checks-wrong}
 
 -- ---- how far the reading has come
 -- what is due says this of the pulses that are used up
@@ -52,20 +52,21 @@ checked_means s pulses before calibration rest status values true stands calibra
   others = take (suc (suc s.nibbles)) rest;
   after = drop (suc (suc s.nibbles)) rest;
   stands = stands ∙ ap (λ all. before ++ calibration ∷ all) (sym (take-append-drop (suc (suc s.nibbles)) rest));
-  sent = subst (λ (crc : ℕ). IsSent s calibration (take (suc (suc s.nibbles)) rest) (record { status = status; nibbles = take s.nibbles values }) crc (place_at rest (suc s.nibbles)))
-      (sym (eqb-true (crc_of s.crc (take s.nibbles values)) (slice_index values s.nibbles) right)) (is_sent s calibration rest status values calibrates there);
+  sent = checks-good over.Nibbles s calibration rest status values calibrates there right;
 }
-checked_means s pulses before calibration rest status values false stands calibrates there wrong = record {
-  before = before;
-  calibration = calibration;
-  others = take (suc (suc s.nibbles)) rest;
-  after = drop (suc (suc s.nibbles)) rest;
-  stands = stands ∙ ap (λ all. before ++ calibration ∷ all) (sym (take-append-drop (suc (suc s.nibbles)) rest));
-  frame = record { status = status; nibbles = take s.nibbles values };
-  crc = slice_index values s.nibbles;
-  sent = is_sent s calibration rest status values calibrates there;
-  wrong = λ same. eqb-false (crc_of s.crc (take s.nibbles values)) (slice_index values s.nibbles) wrong (sym same);
-}
+checked_means s pulses before calibration rest status values false stands calibrates there wrong =
+    let other = checks-wrong over.Nibbles s calibration rest status values calibrates there wrong in
+    record {
+      before = before;
+      calibration = calibration;
+      others = take (suc (suc s.nibbles)) rest;
+      after = drop (suc (suc s.nibbles)) rest;
+      stands = stands ∙ ap (λ all. before ++ calibration ∷ all) (sym (take-append-drop (suc (suc s.nibbles)) rest));
+      frame = other.frame;
+      crc = other.crc;
+      sent = other.sent;
+      wrong = other.wrong;
+    }
 
 frame_means : (s : Settings) (pulses before : List Pulse) (calibration : Pulse) (rest : List Pulse) (values : Values)
     → pulses ≡ before ++ calibration ∷ rest → may_calibrate s calibration ≡ true → BeginsFrame s before calibration rest → ValuesMean calibration.length (suc (suc s.nibbles)) rest values

@@ -13,7 +13,7 @@ use Rattle.sent_frame.specs.Pulses.{Pulse, Fall, falls_in, falls_of, pulses_afte
 use Rattle.sent_frame.specs.Reading.{Standing, Hunting, PauseDue, CalibrationDue, Values, Carried, Broken, Short, values_of, with_value, may_calibrate, place_at, checked, due_after, frame_of, frame_from, hunted, found, found_hunting, reports_of, sent_reading}
 
 -- unless there are too few pulses, more of them change no values
-abbrev StayValues : ℕ → ℕ → List Pulse → List Pulse → Type 0
+abbrev pub StayValues : ℕ → ℕ → List Pulse → List Pulse → Type 0
 StayValues c n ps more = (values_of c n ps ≡ Short) ⊎ (values_of c n (ps ++ more) ≡ values_of c n ps)
 
 with_short : (p : Pulse) (v : Option ℕ) (a b : Values) → (a ≡ Short) ⊎ (b ≡ a) → (with_value p v a ≡ Short) ⊎ (with_value p v b ≡ with_value p v a)
@@ -21,23 +21,23 @@ with_short p None a b h = inr refl
 with_short p (Some v) a b (inl short) = inl (ap (with_value p (Some v)) short)
 with_short p (Some v) a b (inr same) = inr (ap (with_value p (Some v)) same)
 
-values-stay : (c n : ℕ) (ps more : List Pulse) → StayValues c n ps more
+pub values-stay : (c n : ℕ) (ps more : List Pulse) → StayValues c n ps more
 unfolding values_of
 values-stay c zero ps more = inr refl
 values-stay c (suc n) [] more = inl refl
 values-stay c (suc n) (p ∷ ps) more = with_short p (value_of p.length c) (values_of c n ps) (values_of c n (ps ++ more)) (values-stay c n ps more)
 
 -- the pulse is there
-abbrev HasPulse : ℕ → List Pulse → List Pulse → Type 0
+abbrev pub HasPulse : ℕ → List Pulse → List Pulse → Type 0
 HasPulse k ps more = place_at (ps ++ more) k ≡ place_at ps k
 
-carried_rest : (p : Pulse) (v : Option ℕ) (w : Values) (vs : List ℕ) → with_value p v w ≡ Carried vs → (us : List ℕ) × (w ≡ Carried us)
+pub carried_rest : (p : Pulse) (v : Option ℕ) (w : Values) (vs : List ℕ) → with_value p v w ≡ Carried vs → (us : List ℕ) × (w ≡ Carried us)
 carried_rest p None w vs e = absurd (cc)
 carried_rest p (Some v) (Carried us) vs e = (us, refl)
 carried_rest p (Some v) (Broken count broken) vs e = absurd (cc)
 carried_rest p (Some v) Short vs e = absurd (cc)
 
-places-stay : (c k : ℕ) (ps more : List Pulse) (vs : List ℕ) → values_of c (suc k) ps ≡ Carried vs → HasPulse k ps more
+pub places-stay : (c k : ℕ) (ps more : List Pulse) (vs : List ℕ) → values_of c (suc k) ps ≡ Carried vs → HasPulse k ps more
 unfolding values_of
 places-stay c k [] more vs e = absurd (cc)
 places-stay c zero (p ∷ ps) more vs e = refl
@@ -80,11 +80,11 @@ falls_more : (b : Bool) (f : Fall) (xs ys zs : List Fall) → zs ≡ xs ++ ys �
 falls_more true f xs ys zs e = e
 falls_more false f xs ys zs e = ap (λ l. f ∷ l) e
 
-falls_in-append : (es more : List NumberedEdge) → falls_in (es ++ more) ≡ falls_in es ++ falls_in more
+pub falls_in-append : (es more : List NumberedEdge) → falls_in (es ++ more) ≡ falls_in es ++ falls_in more
 falls_in-append [] more = refl
 falls_in-append (e ∷ es) more = falls_more e.edge.level (record { number = e.number; time = e.edge.time }) (falls_in es) (falls_in more) (falls_in (es ++ more)) (falls_in-append es more)
 
-pulses_after-front : (before : ℕ) (fs more : List Fall) → IsFrontOf (pulses_after before fs) (pulses_after before (fs ++ more))
+pub pulses_after-front : (before : ℕ) (fs more : List Fall) → IsFrontOf (pulses_after before fs) (pulses_after before (fs ++ more))
 pulses_after-front before [] more = IsFrontOf-nil _
 pulses_after-front before (f ∷ fs) more = IsFrontOf-after (_ ∷ []) (pulses_after-front f.time fs more)
 

@@ -62,7 +62,7 @@ lead-again s c p kept_pulse e = record {
       (record { pulse = p; hunts = refl; stands = refl; long = refl }));
 }
 
-values-none : (c : ℕ) → values_of c 0 [] ≡ Carried []
+pub values-none : (c : ℕ) → values_of c 0 [] ≡ Carried []
 unfolding values_of
 values-none c = refl
 
@@ -100,7 +100,7 @@ unfolding values_of
 first-carries c p later values carried = first_of c p later values (value_of p.length c) (values_of c (length later) later) refl refl carried
 
 -- all carry a value, and the next carries none
-values-broken : (c count : ℕ) (later : List Pulse) (values : List ℕ) (p : Pulse) (more : List Pulse) → values_of c (length later) later ≡ Carried values → length later < count → value_of p.length c ≡ None
+pub values-broken : (c count : ℕ) (later : List Pulse) (values : List ℕ) (p : Pulse) (more : List Pulse) → values_of c (length later) later ≡ Carried values → length later < count → value_of p.length c ≡ None
     → values_of c count (later ++ p ∷ more) ≡ Broken (length later) p
 unfolding values_of
 values-broken c zero later values p more carried fewer none = absurd (omega arith)
@@ -109,7 +109,7 @@ values-broken c (suc count) (q ∷ later) values p more carried fewer none =
     let first = first-carries c q later values carried in rw (first.first, values-broken c count later first.others p more first.rest (omega arith) none) refl
 
 -- all carry a value, and more are to come
-values-short : (c count : ℕ) (later : List Pulse) (values : List ℕ) → values_of c (length later) later ≡ Carried values → length later < count → values_of c count later ≡ Short
+pub values-short : (c count : ℕ) (later : List Pulse) (values : List ℕ) → values_of c (length later) later ≡ Carried values → length later < count → values_of c count later ≡ Short
 unfolding values_of
 values-short c zero later values carried fewer = absurd (omega arith)
 values-short c (suc count) [] values carried fewer = refl
@@ -117,14 +117,14 @@ values-short c (suc count) (q ∷ later) values carried fewer =
     let first = first-carries c q later values carried in rw (first.first, values-short c count later first.others first.rest (omega arith)) refl
 
 -- all carry a value, and so does the next
-values-more : (c : ℕ) (later : List Pulse) (values : List ℕ) (p : Pulse) (v : ℕ) → values_of c (length later) later ≡ Carried values → value_of p.length c ≡ Some v
+pub values-more : (c : ℕ) (later : List Pulse) (values : List ℕ) (p : Pulse) (v : ℕ) → values_of c (length later) later ≡ Carried values → value_of p.length c ≡ Some v
     → values_of c (length (later ++ p ∷ [])) (later ++ p ∷ []) ≡ Carried (values ++ v ∷ [])
 unfolding values_of
 values-more c [] values p v carried e = let none : values ≡ [] = cc in rw (e, none) refl
 values-more c (q ∷ later) values p v carried e =
     let first = first-carries c q later values carried in rw (first.first, values-more c later first.others p v first.rest e) (ap (λ all. Carried (all ++ v ∷ [])) (sym first.all))
 
-place-last : (front : List Pulse) (p : Pulse) (index : ℕ) → length front ≡ index → place_at (front ++ p ∷ []) index ≡ p.place
+pub place-last : (front : List Pulse) (p : Pulse) (index : ℕ) → length front ≡ index → place_at (front ++ p ∷ []) index ≡ p.place
 place-last [] p zero long = refl
 place-last [] p (suc index) long = absurd (omega arith)
 place-last (q ∷ front) p zero long = absurd (omega arith)

@@ -3,12 +3,14 @@ use Rattle.std.specs.Prelude.{◌≡◌, ◌≢◌, ℕ, suc, ◌+◌, ◌*◌, 
 use Rattle.line_base.specs.declared.rule.Rule.{Rule}
 use Rattle.line_base.specs.declared.rule.Rule.TheVariants as rule
 use Rattle.link_math.specs.Sent.{Carries, is_steady, is_pause}
+use Rattle.sent_frame.specs.declared.crc.Cover.{Cover}
+use Rattle.sent_frame.specs.declared.crc.Cover.TheVariants as over
 use Rattle.sent_frame.specs.declared.frame.SentFrame.{SentFrame}
 use Rattle.sent_frame.specs.declared.frame.SentStep.{SentStep}
 use Rattle.sent_frame.specs.declared.frame.SentStep.TheVariants.{Nothing, Good, Bad}
 use Rattle.sent_frame.specs.Setup.{Settings}
 use Rattle.sent_frame.specs.Pulses.{Pulse}
-use Rattle.sent_frame.specs.Reading.{may_calibrate, place_at, crc_of}
+use Rattle.sent_frame.specs.Reading.{may_calibrate, place_at, covered, crc_of}
 
 -- each of these pulses carries its value, after a calibration pulse of this length in ns
 abbrev pub AreCarried : ℕ → List Pulse → List ℕ → Type 0
@@ -24,9 +26,20 @@ pub record IsSent (s : Settings) (calibration : Pulse) (others : List Pulse) (fr
   pub carried : AreCarried calibration.length others (frame.status ∷ (frame.nibbles ++ crc ∷ []))
   pub ends : place_at others (suc s.nibbles) ≡ place
 
--- the frame stands at this calibration pulse and the pulses after it: they carry its status, its nibbles and their CRC
+-- the frame stands at this calibration pulse and the pulses after it: they carry its status, its nibbles and the CRC of what it covers
+abbrev pub IsFrameOver : Cover → Settings → Pulse → List Pulse → SentFrame → ℕ → Type 0
+IsFrameOver cover s calibration others frame place = IsSent s calibration others frame (crc_of s.crc (covered cover frame.status frame.nibbles)) place
+
+-- all these pulses carry a value after this calibration pulse, and the last isn't the CRC of what it covers
+pub record IsWrongOver (cover : Cover) (s : Settings) (calibration : Pulse) (others : List Pulse) (place : ℕ) : Type 0 where
+  pub frame : SentFrame
+  pub crc : ℕ
+  pub sent : IsSent s calibration others frame crc place
+  pub wrong : crc ≢ crc_of s.crc (covered cover frame.status frame.nibbles)
+
+-- the frame of SENT stands there: the CRC is that of its nibbles
 abbrev pub IsFrameAt : Settings → Pulse → List Pulse → SentFrame → ℕ → Type 0
-IsFrameAt s calibration others frame place = IsSent s calibration others frame (crc_of s.crc frame.nibbles) place
+IsFrameAt s calibration others frame place = IsFrameOver over.Nibbles s calibration others frame place
 
 -- somewhere in the pulses stands this frame
 pub record HasFrame (s : Settings) (pulses : List Pulse) (place : ℕ) (frame : SentFrame) : Type 0 where

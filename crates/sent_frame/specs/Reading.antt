@@ -8,6 +8,8 @@ use Rattle.link_math.specs.Sent.{is_calibration, is_steady, is_pause, value_of}
 use Rattle.link_math.specs.Checks.{crc4_of, crc4_legacy_of}
 use Rattle.sent_frame.specs.declared.setup.CrcForm.{CrcForm}
 use Rattle.sent_frame.specs.declared.setup.CrcForm.TheVariants as crc
+use Rattle.sent_frame.specs.declared.crc.Cover.{Cover}
+use Rattle.sent_frame.specs.declared.crc.Cover.TheVariants as over
 use Rattle.sent_frame.specs.declared.frame.SentStep.{SentStep}
 use Rattle.sent_frame.specs.declared.frame.SentStep.TheVariants.{Good, Bad}
 use Rattle.sent_frame.specs.Setup.{Settings}
@@ -57,13 +59,22 @@ place_at [] index = 0
 place_at (pulse ∷ pulses) zero = pulse.place
 place_at (pulse ∷ pulses) (suc index) = place_at pulses index
 
--- a frame of this status, these data nibbles and then the CRC: good where it is the nibbles' CRC
-abbrev pub checked : Settings → ℕ → List ℕ → SentStep
-checked s place [] = Bad place rule.Check
-checked s place (status ∷ values) =
-    if crc_of s.crc (take s.nibbles values) == slice_index values s.nibbles
+-- what the CRC nibble of a frame of this status and these data nibbles covers
+abbrev pub covered : Cover → ℕ → List ℕ → List ℕ
+covered over.Nibbles status nibbles = nibbles
+covered over.Status status nibbles = status ∷ nibbles
+
+-- a frame of this status, these data nibbles and then the CRC: good where it is the CRC of what it covers
+abbrev pub checked_over : Cover → Settings → ℕ → List ℕ → SentStep
+checked_over cover s place [] = Bad place rule.Check
+checked_over cover s place (status ∷ values) =
+    if crc_of s.crc (covered cover status (take s.nibbles values)) == slice_index values s.nibbles
     then Good place (record { status = status; nibbles = take s.nibbles values })
     else Bad place rule.Check
+
+-- a frame of SENT: its CRC covers the data nibbles
+abbrev pub checked : Settings → ℕ → List ℕ → SentStep
+checked s place values = checked_over over.Nibbles s place values
 
 -- what the pulses after a calibration pulse come to
 abbrev pub frame_of : Settings → ℕ → List Pulse → Values → Found SentStep Standing

@@ -17,8 +17,11 @@ mod setup;
 mod tests;
 mod values;
 
+pub use crc::{Cover, checked_frame};
 pub use frame::{SentFrame, SentStep};
 pub use meaning::reports_have_meaning;
+pub use position::may_calibrate;
 pub use pulses::pulses_of;
 pub use reader::SentReader;
 pub use setup::{CrcForm, SentSetup};
+pub use values::FrameValues;

@@ -3,14 +3,14 @@ ghost use Rattle.std.specs.Prelude.{IsTrue, false, ◌≡◌, ◌+◌, ◌^◌, 
 ghost use Rattle.line_base.specs.Standing.{Led, Leads};
 ghost use Rattle.link_math.specs.Sent.{is_calibration};
 ghost use Rattle.sent_frame.specs.Pulses.{Pulse};
-ghost use Rattle.sent_frame.specs.Reading.{Standing, Hunting, due_after, checked, found};
+ghost use Rattle.sent_frame.specs.Reading.{Standing, Hunting, due_after, found};
 ghost use Rattle.sent_frame.specs.Positions.{AgreesPosition, IsInFrame, IsKeptPulse, IsPosition, steps_of};
 
-use crate::crc::crc_nibble;
-use crate::frame::{SentFrame, SentStep};
+use crate::crc::{Cover, checked_frame};
+use crate::frame::SentStep;
 use crate::setup::SentSetup;
 use crate::values::FrameValues;
-use line_base::{Nibbles, Rule};
+use line_base::Rule;
 use link_math::{nibble_of, pause_fits, steady, window};
 
 /// Where a reader stands between two pulses, with what it has kept. Lengths are in ns.
@@ -42,8 +42,8 @@ pub enum Position {
     },
 }
 
-/// Whether a pulse of so many ns may be a calibration pulse.
-fn may_calibrate(setup: &SentSetup, pulse: u64) -> bool
+/// Whether a pulse of so many ns, 0 to 10^15, may be a calibration pulse.
+pub fn may_calibrate(setup: &SentSetup, pulse: u64) -> bool
     requires { pulse ≤ 10 ^ 15 }
     ensures value { result ≡ is_calibration pulse setup.now.tick setup.now.jitter }
     ensures some { IsTrue result → 1 ≤ pulse }
@@ -61,30 +61,6 @@ fn hunt(setup: &SentSetup, pulse: u64) -> Position
         Position::Candidate { calibration: pulse }
     } else {
         Position::Hunting
-    }
-}
-
-/// The last pulse of a frame is there: what the frame comes to, at this place.
-fn check(setup: &SentSetup, values: FrameValues, place: u64) -> SentStep
-    requires { length values ≡ setup.now.nibbles + 2 }
-    ensures { result ≡ checked setup.now place values }
-{
-    let values = values.as_slice();
-    let count = usize::from(setup.nibbles());
-    let nibbles = &values[1..=count];
-    let check = crc_nibble(setup.crc(), nibbles);
-    match Nibbles::new(nibbles) {
-        Some(nibbles) if check == values[count + 1] => SentStep::Good {
-            place,
-            frame: SentFrame {
-                status: values[0],
-                nibbles,
-            },
-        },
-        _ => SentStep::Bad {
-            place,
-            rule: Rule::Check,
-        },
     }
 }
 
@@ -135,7 +111,7 @@ fn read_value(
         );
     }
     let next = after_frame(setup, calibration);
-    let step = check(setup, values, place);
+    let step = checked_frame(setup, Cover::Nibbles, values, place);
     (next, step)
 }
 

@@ -17,5 +17,5 @@ returns-then-len-whole-clause-leads c = λ due kept inside.
 pub returns-clause-leads : goal.returns-clause-leads
 returns-clause-leads c = λ due kept inside.
     let all : length c.args.values ≡ suc c.args.setup.now.nibbles = omega (arith, length-append c.args.values (c.in-Some.value ∷ []), ap length c.with-values.ensures, c.len.ensures, c.if-len-whole.false, c.nibbles.ensures.value, c.from-whole.ensures, c.requires.valid.1) in
-    rw (c.check-step.ensures, steps-checked c.args.setup.now c.args.place c.with-values.result, c.with-values.ensures)
+    rw (c.checked_frame-step.ensures, steps-checked c.args.setup.now c.args.place c.with-values.result, c.with-values.ensures)
     (frame-ends c.args.setup.now c.args.calibration c.args.values c.in-Some.value (record { place = c.args.place; length = c.args.pulse }) c.after_frame-next.result due kept inside (sym c.nibble_of.ensures.value ∙ c.in-Some.is) all c.after_frame-next.ensures.agrees)

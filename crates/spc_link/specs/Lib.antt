@@ -1,0 +1,5 @@
+pub mod Setup
+pub mod Reading
+pub mod Transactions
+pub mod Kept
+pub mod Readers
