@@ -10,12 +10,12 @@ use Rattle.receiver_core.specs.declared.report.Report.{Report}
 use Rattle.receiver_core.specs.declared.report.What.{What}
 use Rattle.receiver_core.specs.declared.report.What.TheVariants as what
 use Rattle.receiver_core.specs.declared.setup.ChannelSetup.{ChannelSetup}
-use Rattle.receiver_core.specs.declared.setup.ChannelSetup.TheVariants.{Sent}
+use Rattle.receiver_core.specs.declared.setup.ChannelSetup.TheVariants.{Sent, Psi5, Spc, Tooth}
 use Rattle.receiver_core.specs.SentReports.{report}
 use Rattle.receiver_core.specs.Stretches.{stretches_from, stretches_of}
 use Rattle.receiver_core.specs.Channels.{stretch_reports, end_reports, reports_from, so_far, final}
 use Rattle.receiver_core.specs.Meanings.{StretchStands, ItemsStand, ReportMeans}
-use Rattle.receiver_core.proofs.Meanings.{stretch-stands}
+use Rattle.receiver_core.proofs.Meanings.{stretch-stands, end-stands}
 
 -- neither an end nor a cut
 abbrev IsNoEnd : Item → Type 0
@@ -53,11 +53,20 @@ past-gap all number stretch first count items reached = record {
 -- ---- a stretch
 says-so : (setup : ChannelSetup) (items : List Item) (stretch : List NumberedEdge) (place : ℕ) (says : What) → Contains (stretches_of items) stretch → StretchStands setup stretch place says → ItemsStand setup items place says
 says-so (Sent line s l f) items stretch place (what.Gap count) is_one stands = absurd stands
+says-so (Psi5 line s slots init) items stretch place (what.Gap count) is_one stands = absurd stands
+says-so (Spc line s) items stretch place (what.Gap count) is_one stands = absurd stands
+says-so (Tooth line s) items stretch place (what.Gap count) is_one stands = absurd stands
 says-so setup items stretch place (what.Frame frame) is_one stands = record { stretch = stretch; is_one = is_one; stands = stands }
 says-so setup items stretch place (what.Fast value) is_one stands = record { stretch = stretch; is_one = is_one; stands = stands }
 says-so setup items stretch place (what.Counter before now) is_one stands = record { stretch = stretch; is_one = is_one; stands = stands }
 says-so setup items stretch place (what.Short id value) is_one stands = record { stretch = stretch; is_one = is_one; stands = stands }
 says-so setup items stretch place (what.Enhanced id value wide) is_one stands = record { stretch = stretch; is_one = is_one; stands = stands }
+says-so setup items stretch place (what.Answer code frame) is_one stands = record { stretch = stretch; is_one = is_one; stands = stands }
+says-so setup items stretch place (what.NoAnswer code) is_one stands = record { stretch = stretch; is_one = is_one; stands = stands }
+says-so setup items stretch place (what.Burst slot payload code) is_one stands = record { stretch = stretch; is_one = is_one; stands = stands }
+says-so setup items stretch place (what.Block id value) is_one stands = record { stretch = stretch; is_one = is_one; stands = stands }
+says-so setup items stretch place (what.Done blocks) is_one stands = record { stretch = stretch; is_one = is_one; stands = stands }
+says-so setup items stretch place (what.Down down) is_one stands = record { stretch = stretch; is_one = is_one; stands = stands }
 says-so setup items stretch place (what.Bad rule) is_one stands = record { stretch = stretch; is_one = is_one; stands = stands }
 
 stretch-means : (setup : ChannelSetup) (all : List Item) (stretch : List NumberedEdge) (closed others : List (List NumberedEdge)) → stretches_of all ≡ closed ++ stretch ∷ others → All (ReportMeans setup all) (stretch_reports setup stretch)
@@ -66,14 +75,16 @@ stretch-means setup all stretch closed others are =
     subst (λ (l : List (List NumberedEdge)). Contains l stretch) (sym are) (Contains-append_right closed (stretch ∷ others) stretch (Contains-append_left (stretch ∷ []) others stretch (Contains-push [] stretch))) in
     All-weaker (λ (r : Report). StretchStands setup stretch r.place r.what) (ReportMeans setup all) (λ r stands. says-so setup all stretch r.place r.what here stands) (stretch_reports setup stretch) (stretch-stands setup stretch)
 
-end-means : (setup : ChannelSetup) (all : List Item) (stretch : List NumberedEdge) → All (ReportMeans setup all) (end_reports setup stretch)
-unfolding end_reports
-end-means (Sent line s l f) all stretch = All-nil (ReportMeans (Sent line s l f) all)
+end-means : (setup : ChannelSetup) (all : List Item) (stretch : List NumberedEdge) (closed others : List (List NumberedEdge)) → stretches_of all ≡ closed ++ stretch ∷ others → All (ReportMeans setup all) (end_reports setup stretch)
+end-means setup all stretch closed others are =
+    let here : Contains (stretches_of all) stretch =
+    subst (λ (l : List (List NumberedEdge)). Contains l stretch) (sym are) (Contains-append_right closed (stretch ∷ others) stretch (Contains-append_left (stretch ∷ []) others stretch (Contains-push [] stretch))) in
+    All-weaker (λ (r : Report). StretchStands setup stretch r.place r.what) (ReportMeans setup all) (λ r stands. says-so setup all stretch r.place r.what here stands) (end_reports setup stretch) (end-stands setup stretch)
 
 last-means : (setup : ChannelSetup) (all : List Item) (stretch : List NumberedEdge) (closed others : List (List NumberedEdge)) → stretches_of all ≡ closed ++ stretch ∷ others
     → All (ReportMeans setup all) (stretch_reports setup stretch ++ end_reports setup stretch)
 last-means setup all stretch closed others are =
-    All-append (ReportMeans setup all) (stretch_reports setup stretch) (end_reports setup stretch) (stretch-means setup all stretch closed others are) (end-means setup all stretch)
+    All-append (ReportMeans setup all) (stretch_reports setup stretch) (end_reports setup stretch) (stretch-means setup all stretch closed others are) (end-means setup all stretch closed others are)
 
 -- ---- all items
 rest-means : (setup : ChannelSetup) (all : List Item) (number : ℕ) (stretch : List NumberedEdge) (items : List Item) → IsReached all number stretch items

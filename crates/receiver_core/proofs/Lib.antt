@@ -1,5 +1,14 @@
 pub mod Serials
 pub mod SentReports
+pub mod SpcReports
+pub mod ToothReports
+pub mod Psi5Places
+pub mod Psi5Reports
+pub mod SyncLines
+pub mod InitReaders
+pub mod Psi5Stretches
+pub mod Psi5Channels
+pub mod Psi5Meanings
 pub mod Meanings
 pub mod ItemMeanings
 pub mod SentStretches

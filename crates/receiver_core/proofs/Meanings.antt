@@ -33,10 +33,13 @@ use Rattle.receiver_core.specs.declared.report.What.TheVariants as what
 use Rattle.receiver_core.specs.declared.setup.Serial.{Serial}
 use Rattle.receiver_core.specs.declared.setup.Serial.TheVariants as form
 use Rattle.receiver_core.specs.declared.setup.ChannelSetup.{ChannelSetup}
-use Rattle.receiver_core.specs.declared.setup.ChannelSetup.TheVariants.{Sent}
+use Rattle.receiver_core.specs.declared.setup.ChannelSetup.TheVariants.{Sent, Psi5, Spc, Tooth}
 use Rattle.receiver_core.specs.Serials.{serial_steps}
 use Rattle.receiver_core.specs.SentReports.{report, counter_reports, value_reports, serial_report, serial_reports, step_reports, counter_in, counter_of, last_counter, statuses_of, frames_with, sent_reports, frames_past}
-use Rattle.receiver_core.specs.Channels.{stretch_reports}
+use Rattle.receiver_core.proofs.SpcReports.{spc-stand, spc-end-stand}
+use Rattle.receiver_core.proofs.ToothReports.{tooth-stand}
+use Rattle.receiver_core.proofs.Psi5Meanings.{psi5-stand, psi5-end-stand}
+use Rattle.receiver_core.specs.Channels.{stretch_reports, end_reports}
 use Rattle.receiver_core.specs.Meanings.{AreFramesTo, SerialMeans, HasSerial, RuleStands, SaidStands, StretchStands}
 use Rattle.receiver_core.proofs.SentReports.{frames_past-append}
 
@@ -212,3 +215,14 @@ all-reached s edges = record { before = []; stands = refl; are = refl }
 pub stretch-stands : (setup : ChannelSetup) (edges : List NumberedEdge) → All (λ (r : Report). StretchStands setup edges r.place r.what) (stretch_reports setup edges)
 unfolding stretch_reports
 stretch-stands (Sent line s l f) edges = steps-stand s l f edges [] (sent_reading s edges) (all-reached s edges) (reports_mean s (pulses_of edges))
+stretch-stands (Psi5 line s slots init) edges = psi5-stand s slots init edges
+stretch-stands (Spc line s) edges = spc-stand s edges
+stretch-stands (Tooth line s) edges = tooth-stand s edges
+
+-- and so does what the end adds
+pub end-stands : (setup : ChannelSetup) (edges : List NumberedEdge) → All (λ (r : Report). StretchStands setup edges r.place r.what) (end_reports setup edges)
+unfolding end_reports
+end-stands (Sent line s l f) edges = All-nil (λ (r : Report). StretchStands (Sent line s l f) edges r.place r.what)
+end-stands (Psi5 line s slots init) edges = psi5-end-stand s slots init edges
+end-stands (Spc line s) edges = spc-end-stand s edges
+end-stands (Tooth line s) edges = All-nil (λ (r : Report). StretchStands (Tooth line s) edges r.place r.what)

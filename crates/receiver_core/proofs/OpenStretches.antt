@@ -1,5 +1,5 @@
 -- The reports of a list of items, cut anywhere: those of the stretches that are closed, and then those of the open one.
-use Rattle.std.proofs.Common.{◌≡◌, ℕ, ◌+◌, List, [], ◌∷◌, ◌++◌, Some, refl, ap, sym, ◌∙◌, append_assoc, append-nil, add_assoc, add-zero, zero-add}
+use Rattle.std.proofs.Common.{◌≡◌, ℕ, ◌+◌, ◌≤◌, List, length, [], ◌∷◌, ◌++◌, Some, refl, ap, sym, ◌∙◌, append_assoc, append-nil, add_assoc, add-zero, zero-add, arith}
 use Rattle.line_base.specs.Edges.{NumberedEdge}
 use Rattle.line_base.specs.declared.edge.Item.{Item}
 use Rattle.line_base.specs.declared.edge.Item.TheVariants as item
@@ -8,6 +8,8 @@ use Rattle.receiver_core.specs.declared.report.What.TheVariants as what
 use Rattle.receiver_core.specs.declared.setup.ChannelSetup.{ChannelSetup}
 use Rattle.receiver_core.specs.SentReports.{report}
 use Rattle.receiver_core.specs.Channels.{edges_counted, stretch_reports, end_reports, reports_from, so_far}
+use Rattle.std.proofs.lemmas.List.{length-append}
+use Rattle.receiver_core.specs.Readers.{open_count}
 use Rattle.receiver_core.specs.OpenStretches.{open_with, open_from, open_stretch, resumed}
 
 -- the reports of the stretches that a gap or an end has closed
@@ -80,3 +82,19 @@ so_far-more setup items next answers adds =
     let left = resumed setup (edges_counted items) (open_stretch items) [] in
     cut-at setup items (next ∷ []) ∙ ap (λ l. closed ++ l) adds ∙ sym (append_assoc closed left answers)
     ∙ ap (λ l. l ++ answers) (sym (cut-at setup items []) ∙ ap (so_far setup) (append-nil items))
+
+open-from-few : (number : ℕ) (stretch : List NumberedEdge) (items : List Item) → length stretch ≤ number → open_count (open_from number stretch items) ≤ number + edges_counted items
+unfolding open_from
+open-from-few number stretch [] few = omega (arith, few)
+open-from-few number stretch (item.Edge edge ∷ items) few =
+    let longer : List NumberedEdge = stretch ++ record { number = number; edge = edge } ∷ [] in
+    let rest = open-from-few (number + 1) longer items (omega (arith, few, length-append stretch (record { number = number; edge = edge } ∷ []))) in
+    omega (arith, rest)
+open-from-few number stretch (item.Gap first count ∷ items) few = let rest = open-from-few (number + count) [] items (omega arith) in omega (arith, rest)
+open-from-few number stretch (item.End ∷ items) few = omega arith
+open-from-few number stretch (item.Cut ∷ items) few = omega arith
+
+-- at most all edges of the items are open
+pub open-few : (items : List Item) → open_count (open_stretch items) ≤ edges_counted items
+unfolding open_stretch
+open-few items = let few = open-from-few 0 [] items (omega arith) in omega (arith, few)

@@ -9,10 +9,13 @@ use Rattle.sent_frame.specs.Reading.{sent_reading}
 use Rattle.sent_frame.proofs.Prefixes.{reading-front}
 use Rattle.receiver_core.specs.declared.report.What.TheVariants as what
 use Rattle.receiver_core.specs.declared.setup.ChannelSetup.{ChannelSetup}
-use Rattle.receiver_core.specs.declared.setup.ChannelSetup.TheVariants.{Sent}
+use Rattle.receiver_core.specs.declared.setup.ChannelSetup.TheVariants.{Sent, Psi5, Spc, Tooth}
 use Rattle.receiver_core.specs.SentReports.{report, sent_reports, frames_past}
 use Rattle.receiver_core.specs.Channels.{stretch_reports, end_reports, reports_from, so_far, final}
 use Rattle.receiver_core.proofs.SentReports.{sent_reports-append}
+use Rattle.receiver_core.proofs.SpcReports.{spc-front}
+use Rattle.receiver_core.proofs.ToothReports.{tooth-front}
+use Rattle.receiver_core.proofs.Psi5Stretches.{psi5-front}
 use Rattle.receiver_core.proofs.Links.{stretch-none}
 
 -- no items have no reports
@@ -29,6 +32,9 @@ stretch-front (Sent line s layout serial) stretch more =
       rest = sent_reports layout serial (frames_past [] (sent_reading s stretch)) steps.rest;
       is = ap (sent_reports layout serial []) steps.is ∙ sent_reports-append layout serial [] (sent_reading s stretch) steps.rest;
     }
+stretch-front (Psi5 line s slots init) stretch more = psi5-front s slots init stretch more
+stretch-front (Spc line s) stretch more = spc-front s stretch more
+stretch-front (Tooth line s) stretch more = tooth-front s stretch more
 
 stretch-first : (setup : ChannelSetup) (number : ℕ) (stretch : List NumberedEdge) (more : List Item) → IsFrontOf (stretch_reports setup stretch) (reports_from setup number stretch more)
 unfolding reports_from

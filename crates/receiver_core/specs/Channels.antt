@@ -7,8 +7,12 @@ use Rattle.sent_frame.specs.Reading.{sent_reading}
 use Rattle.receiver_core.specs.declared.report.Report.{Report}
 use Rattle.receiver_core.specs.declared.report.What.TheVariants as what
 use Rattle.receiver_core.specs.declared.setup.ChannelSetup.{ChannelSetup}
-use Rattle.receiver_core.specs.declared.setup.ChannelSetup.TheVariants.{Sent}
+use Rattle.receiver_core.specs.declared.setup.ChannelSetup.TheVariants.{Sent, Psi5, Spc, Tooth}
 use Rattle.receiver_core.specs.SentReports.{report, sent_reports}
+use Rattle.receiver_core.specs.SpcReports.{spc_so_far, spc_end}
+use Rattle.receiver_core.specs.ToothReports.{tooth_so_far}
+use Rattle.receiver_core.specs.Psi5Places.{grown}
+use Rattle.receiver_core.specs.Psi5Reports.{psi5_so_far, psi5_at_end}
 
 -- how many edges these items are, with those that were lost
 abbrev pub edges_counted : List Item → ℕ
@@ -21,10 +25,16 @@ edges_counted (item.Cut ∷ items) = edges_counted items
 -- the reports of a stretch of edges, which no gap parts
 unfoldable pub stretch_reports : ChannelSetup → List NumberedEdge → List Report
 stretch_reports (Sent line setup layout serial) edges = sent_reports layout serial [] (sent_reading setup edges)
+stretch_reports (Psi5 line setup slots init) edges = psi5_so_far setup slots init edges
+stretch_reports (Spc line setup) edges = spc_so_far setup edges
+stretch_reports (Tooth line setup) edges = tooth_so_far setup edges
 
--- the reports that the end adds to those of the last stretch: none for SENT
+-- the reports that the end adds to those of the last stretch: none for SENT and the tooth gap, for PSI5 those of the last burst, and for SPC that of a trigger without an answer
 unfoldable pub end_reports : ChannelSetup → List NumberedEdge → List Report
 end_reports (Sent line setup layout serial) edges = []
+end_reports (Psi5 line setup slots init) edges = grown (psi5_so_far setup slots init edges) (psi5_at_end setup slots init edges)
+end_reports (Spc line setup) edges = spc_end setup edges
+end_reports (Tooth line setup) edges = []
 
 -- the reports of the last edges since a gap and of these items, which come after so many edges: each stretch is read from its start, each gap is told between two, and nothing is read after an end
 unfoldable pub reports_from : ChannelSetup → ℕ → List NumberedEdge → List Item → List Report

@@ -8,3 +8,9 @@ pub mod Channels
 pub mod OpenStretches
 pub mod Readers
 pub mod Tallies
+pub mod Psi5Places
+pub mod Psi5Reports
+pub mod Psi5Stretches
+pub mod Psi5Meanings
+pub mod SpcReports
+pub mod ToothReports

@@ -26,8 +26,11 @@ use Rattle.receiver_core.specs.declared.report.What.TheVariants as what
 use Rattle.receiver_core.specs.declared.setup.Serial.{Serial}
 use Rattle.receiver_core.specs.declared.setup.Serial.TheVariants as serial
 use Rattle.receiver_core.specs.declared.setup.ChannelSetup.{ChannelSetup}
-use Rattle.receiver_core.specs.declared.setup.ChannelSetup.TheVariants.{Sent}
+use Rattle.receiver_core.specs.declared.setup.ChannelSetup.TheVariants.{Sent, Psi5, Spc, Tooth}
 use Rattle.receiver_core.specs.SentReports.{counter_of, statuses_of, frames_past}
+use Rattle.receiver_core.specs.Psi5Meanings.{BurstStands}
+use Rattle.receiver_core.specs.SpcReports.{AnswerStands}
+use Rattle.receiver_core.specs.ToothReports.{DownStands}
 use Rattle.receiver_core.specs.Stretches.{stretches_of}
 
 -- ---- in a stretch of a SENT line's edges
@@ -96,6 +99,12 @@ SaidStands s layout form edges place (what.Fast value) = SaysValue s layout edge
 SaidStands s layout form edges place (what.Counter before now) = HasJump s layout edges place before now
 SaidStands s layout form edges place (what.Short id value) = HasSerial s form edges place (step.Short id value)
 SaidStands s layout form edges place (what.Enhanced id value wide) = HasSerial s form edges place (step.Enhanced id value wide)
+SaidStands s layout form edges place (what.Answer code frame) = ⊥
+SaidStands s layout form edges place (what.NoAnswer code) = ⊥
+SaidStands s layout form edges place (what.Burst slot payload code) = ⊥
+SaidStands s layout form edges place (what.Block id value) = ⊥
+SaidStands s layout form edges place (what.Done blocks) = ⊥
+SaidStands s layout form edges place (what.Down down) = ⊥
 SaidStands s layout form edges place (what.Bad rule) = RuleStands s layout form edges place rule
 SaidStands s layout form edges place (what.Gap count) = ⊥
 
@@ -103,6 +112,9 @@ SaidStands s layout form edges place (what.Gap count) = ⊥
 -- what is said at this place stands for, in a stretch of edges that the setup reads
 abbrev pub StretchStands : ChannelSetup → List NumberedEdge → ℕ → What → Type 0
 StretchStands (Sent line s layout form) edges place says = SaidStands s layout form edges place says
+StretchStands (Psi5 line s slots init) edges place says = BurstStands s slots init edges place says
+StretchStands (Spc line s) edges place says = AnswerStands s edges place says
+StretchStands (Tooth line s) edges place says = DownStands s edges place says
 
 -- in one of the stretches of the items stands what is said at this place
 pub record HasStretch (setup : ChannelSetup) (items : List Item) (place : ℕ) (says : What) : Type 0 where

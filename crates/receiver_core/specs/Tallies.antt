@@ -13,13 +13,19 @@ pub data Counts : Type 0 where
   Gap : ℕ → Counts
   Nothing : Counts
 
--- a frame is good, a violated rule and a counter that doesn't follow are bad, and what a frame's nibbles say counts with the frame
+-- a frame, an answer, a burst and a downlink frame are good; a violated rule, a counter that doesn't follow and a trigger without an answer are bad; a serial message and a block are messages; what a frame's nibbles say counts with the frame, and the end of an initialisation as nothing
 abbrev pub counts_as : What → Counts
 counts_as (what.Frame frame) = Good
 counts_as (what.Fast value) = Nothing
 counts_as (what.Counter before now) = Bad
 counts_as (what.Short id value) = Message
 counts_as (what.Enhanced id value wide) = Message
+counts_as (what.Answer code frame) = Good
+counts_as (what.NoAnswer code) = Bad
+counts_as (what.Burst slot payload code) = Good
+counts_as (what.Block id value) = Message
+counts_as (what.Done blocks) = Nothing
+counts_as (what.Down down) = Good
 counts_as (what.Bad rule) = Bad
 counts_as (what.Gap count) = Gap count
 

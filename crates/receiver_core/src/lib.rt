@@ -5,18 +5,24 @@
 //! it. Which report comes when, what a violated rule resets, and what is counted is this project's own.
 #![tactic(auto)]
 
+mod init_readers;
 mod meaning;
+mod psi5_burst;
+mod psi5_channel;
 mod receiver;
 mod report;
 mod sent_channel;
 mod serial;
 mod setup;
+mod spc_channel;
+mod sync_line;
 mod tally;
 #[cfg(test)]
 mod tests;
+mod tooth_channel;
 
 pub use meaning::{reports_grow, reports_have_meaning};
 pub use receiver::Receiver;
 pub use report::{Report, What};
-pub use setup::{ChannelSetup, Serial};
+pub use setup::{ChannelSetup, Serial, SyncSlots};
 pub use tally::Tally;

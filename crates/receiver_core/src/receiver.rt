@@ -1,5 +1,5 @@
 //! One channel's receiver.
-ghost use Rattle.std.specs.Prelude.{◌≡◌, ◌^◌, ◌≤◌, ◌++◌, [], ◌∷◌, List, ℕ, Option, None};
+ghost use Rattle.std.specs.Prelude.{◌≡◌, ◌^◌, ◌<◌, ◌≤◌, ◌++◌, [], ◌∷◌, List, ℕ, Option, None};
 ghost use Rattle.line_base.specs.Edges.{NumberedEdge};
 ghost use Rattle.line_base.specs.declared.edge.Item.{Item};
 ghost use Rattle.receiver_core.specs.declared.setup.ChannelSetup.{ChannelSetup};
@@ -7,9 +7,12 @@ ghost use Rattle.receiver_core.specs.Setups.{setup_fault_of};
 ghost use Rattle.receiver_core.specs.Channels.{edges_counted, so_far};
 ghost use Rattle.receiver_core.specs.OpenStretches.{open_with, resumed};
 
+use crate::psi5_channel::Psi5Channel;
 use crate::report::{Report, What};
 use crate::sent_channel::SentChannel;
 use crate::setup::ChannelSetup;
+use crate::spc_channel::SpcChannel;
+use crate::tooth_channel::ToothChannel;
 use arrayvec::ArrayVec;
 use line_base::{Edge, Item};
 
@@ -18,6 +21,12 @@ use line_base::{Edge, Item};
 enum Link {
     /// SENT frames.
     Sent(SentChannel),
+    /// PSI5 bursts.
+    Psi5(Psi5Channel),
+    /// SPC transactions.
+    Spc(SpcChannel),
+    /// The tooth-gap downlink.
+    Tooth(ToothChannel),
     /// An end came: nothing more is read.
     Ended,
 }
@@ -33,7 +42,7 @@ pub struct Receiver {
 }
 
 impl Link {
-    ghost use Rattle.receiver_core.specs.Readers.{LinkStandsFor};
+    ghost use Rattle.receiver_core.specs.Readers.{LinkStandsFor, open_count};
 
     /// What reads the edges of a setup that has no fault.
     fn new(setup: ChannelSetup) -> Link
@@ -47,6 +56,14 @@ impl Link {
                 serial,
                 ..
             } => Link::Sent(SentChannel::new(setup, layout, serial)),
+            ChannelSetup::Psi5 {
+                setup,
+                slots,
+                init,
+                ..
+            } => Link::Psi5(Psi5Channel::new(setup, slots, init)),
+            ChannelSetup::Spc { setup, .. } => Link::Spc(SpcChannel::new(setup)),
+            ChannelSetup::Tooth { setup, .. } => Link::Tooth(ToothChannel::new(setup)),
         }
     }
 
@@ -55,7 +72,7 @@ impl Link {
     fn edge(&mut self, number: u64, edge: Edge, reports: &mut ArrayVec<Report, 8>)
         requires in_range { edge.time ≤ 10 ^ 15 }
         requires empty { reports.old.items ≡ [] }
-        requires stands { (setup : ChannelSetup) × (stretch : Option (List NumberedEdge)) × LinkStandsFor setup self.old stretch }
+        requires stands { (setup : ChannelSetup) × (stretch : Option (List NumberedEdge)) × LinkStandsFor setup self.old stretch × (open_count stretch < 2 ^ 60) }
         ensures stands { (setup : ChannelSetup) (stretch : Option (List NumberedEdge)) → LinkStandsFor setup self.old stretch
             → LinkStandsFor setup self.new (open_with number stretch (Item.Edge edge)) }
         ensures grows { (setup : ChannelSetup) (stretch : Option (List NumberedEdge)) → LinkStandsFor setup self.old stretch
@@ -63,6 +80,9 @@ impl Link {
     {
         match self {
             Link::Sent(channel) => channel.push(number, edge, reports),
+            Link::Psi5(channel) => channel.push(number, edge, reports),
+            Link::Spc(channel) => channel.push(number, edge, reports),
+            Link::Tooth(channel) => channel.push(number, edge, reports),
             Link::Ended => {}
         }
     }
@@ -76,20 +96,23 @@ impl Link {
             → resumed setup number stretch (Item.Gap first count ∷ []) ≡ resumed setup number stretch [] ++ reports.new.items }
     {
         match self {
-            Link::Sent(channel) => {
-                channel.reset();
-                reports.push(Report {
-                    place: first,
-                    what: What::Gap { count },
-                });
-            }
-            Link::Ended => {}
+            Link::Sent(channel) => channel.reset(),
+            Link::Psi5(channel) => channel.reset(),
+            Link::Spc(channel) => channel.reset(),
+            Link::Tooth(channel) => channel.reset(),
+            Link::Ended => return,
         }
+        reports.push(Report {
+            place: first,
+            what: What::Gap { count },
+        });
     }
 
-    /// Takes the end of a whole list, and adds the reports that it gives to none. A SENT channel gives none.
+    /// Takes the end of a whole list, and adds the reports that it gives to none: those of the last burst of a
+    /// PSI5 channel, and that of an SPC trigger without an answer. SENT and the tooth gap give none.
     fn end(&mut self, reports: &mut ArrayVec<Report, 8>)
-        requires { reports.old.items ≡ [] }
+        requires empty { reports.old.items ≡ [] }
+        requires stands { (setup : ChannelSetup) × (stretch : Option (List NumberedEdge)) × LinkStandsFor setup self.old stretch × (open_count stretch ≤ 2 ^ 60) }
         ensures stands { (setup : ChannelSetup) (number : ℕ) (stretch : Option (List NumberedEdge)) → LinkStandsFor setup self.old stretch
             → LinkStandsFor setup self.new (open_with number stretch Item.End) }
         ensures grows { (setup : ChannelSetup) (number : ℕ) (stretch : Option (List NumberedEdge)) → LinkStandsFor setup self.old stretch
@@ -97,7 +120,12 @@ impl Link {
     {
         match self {
             // A frame that is open at the end isn't whole.
-            Link::Sent(_) | Link::Ended => {}
+            Link::Sent(_) => {}
+            Link::Psi5(channel) => channel.end(reports),
+            Link::Spc(channel) => channel.end(reports),
+            // A frame that is open at the end isn't whole.
+            Link::Tooth(_) => {}
+            Link::Ended => {}
         }
         *self = Link::Ended;
     }

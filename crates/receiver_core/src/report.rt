@@ -2,6 +2,9 @@
 ghost use Rattle.std.specs.Prelude.{◌≡◌};
 
 use line_base::Rule;
+use psi5_downlink::Down;
+use psi5_frame::Payload;
+use psi5_init::Code;
 use sent_fast::Fast;
 use sent_frame::SentFrame;
 
@@ -35,6 +38,41 @@ pub enum What {
         /// Whether the value has 16 bits and the ID 4, and not 12 and 8.
         wide: bool,
     },
+    /// An SPC sensor answered its trigger.
+    Answer {
+        /// The code that the trigger chose, 0 to 7.
+        code: u8,
+        /// The frame of the answer.
+        frame: SentFrame,
+    },
+    /// No SPC sensor answered a trigger.
+    NoAnswer {
+        /// The code that the trigger chose, 0 to 7.
+        code: u8,
+    },
+    /// A good PSI5 burst.
+    Burst {
+        /// The time slot that it answers, 0 to 7, where the channel has slots.
+        slot: Option<u8>,
+        /// What its frame says.
+        payload: Payload,
+        /// What data A says, where it has 10 bits.
+        code: Option<Code>,
+    },
+    /// A whole block of a PSI5 initialisation.
+    Block {
+        /// The block's ID, 1 to 16.
+        id: u8,
+        /// The block's value, 0 to 15.
+        value: u8,
+    },
+    /// The end of a PSI5 initialisation.
+    Done {
+        /// How many blocks were told in it.
+        blocks: u64,
+    },
+    /// A good downlink frame.
+    Down(Down),
     /// A rule is violated.
     Bad(Rule),
     /// Edges were lost.

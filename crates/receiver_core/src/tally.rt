@@ -8,11 +8,11 @@ use crate::report::{Report, What};
 /// The counts of a channel's reports.
 #[derive(Clone, Copy, Debug, PartialEq, Eq)]
 pub struct Tally {
-    /// Good frames.
+    /// Good frames, answers, bursts and downlink frames.
     pub good: u64,
-    /// Violated rules, and counters that don't follow.
+    /// Violated rules, counters that don't follow, and triggers without an answer.
     pub bad: u64,
-    /// Serial messages.
+    /// Serial messages, and blocks of an initialisation.
     pub messages: u64,
     /// Gaps.
     pub gaps: u64,
@@ -41,10 +41,12 @@ impl Tally {
         ensures whole { (reports : List Report) → self.old ≡ tally_of reports → self.new ≡ tally_of (reports ++ report.now ∷ []) }
     {
         match report.what {
-            What::Frame(_) => self.good += 1,
-            What::Fast(_) => {}
-            What::Counter { .. } | What::Bad(_) => self.bad += 1,
-            What::Short { .. } | What::Enhanced { .. } => self.messages += 1,
+            What::Frame(_) | What::Answer { .. } | What::Burst { .. } | What::Down(_) => {
+                self.good += 1;
+            }
+            What::Fast(_) | What::Done { .. } => {}
+            What::Counter { .. } | What::NoAnswer { .. } | What::Bad(_) => self.bad += 1,
+            What::Short { .. } | What::Enhanced { .. } | What::Block { .. } => self.messages += 1,
             What::Gap { count } => {
                 self.gaps += 1;
                 self.lost += count;

@@ -5,6 +5,9 @@ ghost use Rattle.receiver_core.specs.Channels.{edges_counted};
 ghost use Rattle.receiver_core.specs.Readers.{IsTakeable};
 ghost use Rattle.receiver_core.specs.Tallies.{counts_as, lost_in};
 
+mod answers;
+mod bursts;
+mod downs;
 mod messages;
 
 use super::*;
@@ -101,6 +104,26 @@ fn reports(alloc: Global, setup: ChannelSetup, items: &[Item]) -> Result<Vec<Rep
         reports.extend_from_slice(answers.as_slice())?;
     }
     Ok(reports)
+}
+
+/// The setup, where it has no fault. Else the test stops.
+fn sound(rt: &impl Abort, setup: ChannelSetup) -> ChannelSetup
+    ensures { setup_fault_of result ≡ None }
+{
+    match setup.fault() {
+        None => setup,
+        Some(_) => rt.abort(),
+    }
+}
+
+/// Adds the edge of this line at this time in ns.
+fn add_edge(items: &mut Vec<Item>, line: u8, time: u32, level: bool) -> Result<(), AllocError> {
+    items.push(Item::Edge(Edge {
+        line,
+        time: u64::from(time),
+        level,
+    }))?;
+    Ok(())
 }
 
 /// A frame of six nibbles, with the status 0, that ends at this place.
@@ -296,7 +319,8 @@ fn a_setup_is_refused_at_its_line_and_then_at_its_layout(rt: HostRuntime) {
             serial: Serial::Absent,
         };
         assert_eq!(rt; channel.fault(), fault, "{line} {nibbles} {layout:?}");
-        assert_eq!(rt; channel.line(), line);
+        assert!(rt; channel.reads(line));
+        assert!(rt; !channel.reads(line ^ 1));
     }
 }
 
