@@ -1,7 +1,7 @@
 -- Decimal numbers, and the digits that spell them.
 use Rattle.std.proofs.Common.{◌≡◌, ℕ, ◌+◌, ◌-◌, ◌*◌, ◌/◌, ◌%◌, ◌^◌, ◌<◌, ◌≤◌, ◌&&◌, nat_le, nat_lt, not, Bool, true, false, cond, Option, Some, None, Result, Ok, Err, ok_or, option_map, SomeIff, List, [], ◌∷◌, length, get_or, drop, decimal, refl, sym, ◌∙◌, ap, subst, inl, inr, arith}
 use Rattle.std.specs.List.{list_all}
-use Rattle.std.proofs.lemmas.Bool.{and_parts, leb-true, le-leb, lt-ltb, ltb-true, ne_eqb, eq-eqb, not-true, cases_lt, false_from_ne_true}
+use Rattle.std.proofs.lemmas.Bool.{and_parts, and_from, leb-true, le-leb, lt-ltb, ltb-true, ne_eqb, eq-eqb, not-true, cases_lt, false_from_ne_true}
 use Rattle.std.proofs.lemmas.List.{drop_more, drop_all}
 use Rattle.std.proofs.lemmas.Fmt.{decimal_digit, first_decimal, digits_decimal, decimal-digits_value}
 use Rattle.line_base.specs.Texts.{is_digit, is_number, number_after, number_in}
@@ -11,7 +11,7 @@ use Rattle.line_base.proofs.Decimals.{numerals, number_back, digit_bounds}
 use Rattle.report_text.specs.declared.fault.TextFault.{TextFault}
 use Rattle.report_text.specs.declared.fault.TextFault.TheVariants.{Number, Range}
 use Rattle.line_base.specs.Steps.{◌>>=◌, check}
-use Rattle.report_text.specs.Decimals.{two_digits, digit_in, channel_in, has_leading_zero, number_spelled, count_spelled}
+use Rattle.report_text.specs.Decimals.{two_digits, digit_in, channel_in, has_leading_zero, number_spelled, count_spelled, IsBetween, number_between}
 use Rattle.report_text.proofs.Steps.{bind_ok, check_ok, some_ok, ok_is}
 use Rattle.report_text.proofs.Cutting.{is_other}
 
@@ -63,10 +63,10 @@ value_taken true byte value d e =
     (omega arith, omega arith)
 value_taken false byte value d e = absurd cc
 
-digit_taken : (byte value : ℕ) → digit_in byte ≡ Ok value → (byte ≡ 48 + value) × (value < 10)
+pub digit_taken : (byte value : ℕ) → digit_in byte ≡ Ok value → (byte ≡ 48 + value) × (value < 10)
 digit_taken byte value e = value_taken (is_digit byte) byte value refl e
 
-digit_again : (value : ℕ) → value < 10 → digit_in (48 + value) ≡ Ok value
+pub digit_again : (value : ℕ) → value < 10 → digit_in (48 + value) ≡ Ok value
 digit_again value low =
     ap (λ (t : Bool). cond t (Ok (48 + value - 48)) (Err Number)) (digit_true (48 + value) (omega arith) (omega arith))
     ∙ ap (λ (n : ℕ). Ok n) (let e : 48 + value - 48 ≡ value = omega arith in e)
@@ -169,6 +169,22 @@ unfolding count_spelled
 count_again count some small =
     ap (λ (r : Result ℕ TextFault). r >>= λ n. check (nat_le 1 n) Range >>= λ _. Ok n) (number_again count small)
     ∙ ap (λ (t : Bool). check t Range >>= λ _. Ok count) (le-leb 1 count some)
+
+pub between_taken : (low high : ℕ) (field : List ℕ) (number : ℕ) → number_between low high field ≡ Ok number → (field ≡ decimal number) × IsBetween low high number
+unfolding number_between
+between_taken low high field number e =
+    let read = bind_ok (number_spelled field) (λ n. check (nat_le low n && nat_le n high) Range >>= λ _. Ok n) number e in
+    let within = check_ok (nat_le low read.0 && nat_le read.0 high) Range (Ok read.0) number read.2 in
+    let same = ok_is read.0 number within.1 in
+    let parts = and_parts (nat_le low read.0) (nat_le read.0 high) within.0 in
+    let bounds : IsBetween low high read.0 = (leb-true low read.0 parts.0, leb-true read.0 high parts.1) in
+    ((number_taken field number (read.1 ∙ ap (λ (n : ℕ). Ok n) same)).0, subst (λ n. IsBetween low high n) same bounds)
+
+pub between_again : (low high number : ℕ) → IsBetween low high number → number < 2 ^ 64 → number_between low high (decimal number) ≡ Ok number
+unfolding number_between
+between_again low high number bounds small =
+    ap (λ (r : Result ℕ TextFault). r >>= λ n. check (nat_le low n && nat_le n high) Range >>= λ _. Ok n) (number_again number small)
+    ∙ ap (λ (t : Bool). check t Range >>= λ _. Ok number) (and_from (nat_le low number) (nat_le number high) (le-leb low number bounds.0) (le-leb number high bounds.1))
 
 -- the value of digits without a leading zero
 ranged : (o : Option ℕ) (number : ℕ) → SomeIff o (number < 2 ^ 64) number → ok_or o Range ≡ (check (nat_lt number (2 ^ 64)) Range >>= λ _. Ok number)

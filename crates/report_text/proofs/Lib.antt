@@ -5,5 +5,8 @@ pub mod Nibbles
 pub mod Reading
 pub mod Spellings
 pub mod RuleNames
+pub mod Told
+pub mod Codes
+pub mod Bursts
 pub mod Lines
 pub mod Reports

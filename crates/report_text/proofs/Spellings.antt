@@ -1,21 +1,21 @@
 -- How the values of fields are spelled: each has one spelling, and is read from that one alone.
-use Rattle.std.proofs.Common.{◌≡◌, ℕ, suc, ◌^◌, ◌<◌, ◌&&◌, nat_le, Bool, true, Result, Ok, List, ◌∷◌, ◌==◌, length, map, decimal, sym, ◌∙◌, ap, subst, arith}
+use Rattle.std.proofs.Common.{◌≡◌, ℕ, suc, ◌^◌, ◌<◌, ◌≤◌, ◌&&◌, nat_le, Bool, true, Result, Ok, List, ◌∷◌, ◌==◌, length, map, decimal, sym, ◌∙◌, ap, subst, arith}
 use Rattle.std.specs.List.{list_all}
 use Rattle.std.proofs.lemmas.Bool.{and_parts, and_from, leb-true, le-leb, eqb-true, eq-eqb}
 use Rattle.std.proofs.lemmas.List.{length-map}
 use Rattle.std.proofs.lemmas.Fmt.{decimal_nonempty}
 use Rattle.line_base.specs.Nibbles.{AreNibbles}
 use Rattle.report_text.specs.declared.fault.TextFault.{TextFault}
-use Rattle.report_text.specs.declared.fault.TextFault.TheVariants.{Number}
+use Rattle.report_text.specs.declared.fault.TextFault.TheVariants.{Number, Range}
 use Rattle.line_base.specs.Steps.{◌>>=◌, check}
 use Rattle.report_text.specs.Fields.{field_read, value_read}
-use Rattle.report_text.specs.Decimals.{two_digits, channel_in, number_spelled, count_spelled}
-use Rattle.report_text.specs.Hex.{hex_digit, hex_text, nibbles_of, nibbles_in, number_with, hex_in, data_in}
+use Rattle.report_text.specs.Decimals.{two_digits, channel_in, number_spelled, count_spelled, IsBetween, number_between}
+use Rattle.report_text.specs.Hex.{hex_digit, hex_text, nibbles_of, nibbles_in, number_with, hex_in, hex_to, data_in}
 use Rattle.report_text.specs.Rules.{rule_name, rule_in}
 use Rattle.report_text.specs.Gaps.{IsGapTold}
 use Rattle.report_text.proofs.Steps.{bind_ok, check_ok, ok_is}
 use Rattle.report_text.proofs.Cutting.{is_other, field_taken, field_again}
-use Rattle.report_text.proofs.Decimals.{channel_taken, channel_again, channel_free, number_taken, number_again, count_taken, count_again, decimal_free}
+use Rattle.report_text.proofs.Decimals.{channel_taken, channel_again, channel_free, number_taken, number_again, count_taken, count_again, between_taken, between_again, decimal_free}
 use Rattle.report_text.proofs.Nibbles.{nibbles_taken, nibbles_again, nibbles_free, has_nibbles, nibbles_back}
 use Rattle.report_text.proofs.RuleNames.{name_taken, name_again, name_free, name_some}
 
@@ -51,6 +51,14 @@ channels = record { taken = channel_taken; again = channel_again; some = λ chan
 
 pub numbers : Spells decimal number_spelled (λ number. number < 2 ^ 64)
 numbers = record { taken = number_taken; again = number_again; some = decimal_nonempty; free = decimal_free }
+
+pub betweens : (low high : ℕ) → high < 2 ^ 64 → Spells decimal (number_between low high) (IsBetween low high)
+betweens low high small = record {
+  taken = between_taken low high;
+  again = λ number fits. between_again low high number fits (omega (arith, fits.1));
+  some = λ number fits. decimal_nonempty number (omega (arith, fits.1));
+  free = λ number fits. decimal_free number (omega (arith, fits.1));
+}
 
 pub counts : Spells decimal count_spelled IsGapTold
 counts = record {
@@ -92,6 +100,28 @@ hex width = record {
   again = hex_again (suc width);
   some = λ number below. (let long = hex_long (suc width) number in omega (arith, long));
   free = λ number below. nibbles_free (nibbles_of (suc width) number) (has_nibbles (suc width) number).low;
+}
+
+hex_to_taken : (width most : ℕ) (field : List ℕ) (number : ℕ) → hex_to width most field ≡ Ok number → (field ≡ hex_text width number) × (number ≤ most)
+unfolding hex_to
+hex_to_taken width most field number e =
+    let read = bind_ok (hex_in width field) (λ n. check (nat_le n most) Range >>= λ _. Ok n) number e in
+    let within = check_ok (nat_le read.0 most) Range (Ok read.0) number read.2 in
+    let same = ok_is read.0 number within.1 in
+    ((hex_taken width field number (read.1 ∙ ap (λ (n : ℕ). Ok n) same)).0, subst (λ n. n ≤ most) same (leb-true read.0 most within.0))
+
+hex_to_again : (width most number : ℕ) → number ≤ most → number < 16 ^ width → hex_to width most (hex_text width number) ≡ Ok number
+unfolding hex_to
+hex_to_again width most number low below =
+    ap (λ (r : Result ℕ TextFault). r >>= λ n. check (nat_le n most) Range >>= λ _. Ok n) (hex_again width number below)
+    ∙ ap (λ (t : Bool). check t Range >>= λ _. Ok number) (le-leb number most low)
+
+pub hex_tos : (width most : ℕ) → most < 16 ^ suc width → Spells (hex_text (suc width)) (hex_to (suc width) most) (λ number. number ≤ most)
+hex_tos width most small = record {
+  taken = hex_to_taken (suc width) most;
+  again = λ number low. hex_to_again (suc width) most number low (omega (arith, low, small));
+  some = λ number low. (hex width).some number (omega (arith, low, small));
+  free = λ number low. (hex width).free number (omega (arith, low, small));
 }
 
 data_taken : (field nibbles : List ℕ) → data_in field ≡ Ok nibbles → (field ≡ map hex_digit nibbles) × AreNibbles nibbles

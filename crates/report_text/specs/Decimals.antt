@@ -1,5 +1,5 @@
 -- Decimal numbers in a line; this project's own.
-use Rattle.std.specs.Prelude.{ℕ, ◌+◌, ◌-◌, ◌*◌, ◌/◌, ◌%◌, ◌^◌, ◌==◌, nat_lt, nat_le, Bool, false, not, ok_or, Result, Ok, Err, List, [], ◌∷◌, if◌then◌else◌}
+use Rattle.std.specs.Prelude.{ℕ, ◌+◌, ◌-◌, ◌*◌, ◌/◌, ◌%◌, ◌^◌, ◌==◌, ◌≤◌, ◌&&◌, nat_lt, nat_le, Bool, false, not, ok_or, Result, Ok, Err, List, [], ◌∷◌, if◌then◌else◌}
 use Rattle.line_base.specs.Texts.{is_digit, number_in}
 use Rattle.report_text.specs.declared.fault.TextFault.{TextFault}
 use Rattle.report_text.specs.declared.fault.TextFault.TheVariants.{Number, Range}
@@ -42,3 +42,14 @@ count_spelled field = do
   count ← number_spelled field
   _ ← check (nat_le 1 count) Range
   Ok count
+
+-- a number from the lowest to the highest of these
+abbrev pub IsBetween : ℕ → ℕ → ℕ → Type 0
+IsBetween low high number = (low ≤ number) × (number ≤ high)
+
+-- such a number from `low` to `high`; Range outside
+unfoldable pub number_between : ℕ → ℕ → List ℕ → Result ℕ TextFault
+number_between low high field = do
+  number ← number_spelled field
+  _ ← check (nat_le low number && nat_le number high) Range
+  Ok number

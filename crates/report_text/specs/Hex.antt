@@ -2,7 +2,7 @@
 use Rattle.std.specs.Prelude.{ℕ, zero, suc, ◌+◌, ◌-◌, ◌*◌, ◌/◌, ◌%◌, ◌==◌, ◌&&◌, nat_le, Result, Ok, Err, List, [], ◌∷◌, ◌++◌, codes, length, map, slice_index, if◌then◌else◌}
 use Rattle.line_base.specs.Texts.{is_digit}
 use Rattle.report_text.specs.declared.fault.TextFault.{TextFault}
-use Rattle.report_text.specs.declared.fault.TextFault.TheVariants.{Number}
+use Rattle.report_text.specs.declared.fault.TextFault.TheVariants.{Number, Range}
 use Rattle.line_base.specs.Steps.{◌>>=◌, check}
 
 -- a nibble as a hexadecimal digit
@@ -41,6 +41,13 @@ hex_in width field = do
   _ ← check (length field == width) Number
   nibbles ← nibbles_in field
   Ok (number_with 0 nibbles)
+
+-- such a number of at most `most`; Range above it
+unfoldable pub hex_to : ℕ → ℕ → List ℕ → Result ℕ TextFault
+hex_to width most field = do
+  number ← hex_in width field
+  _ ← check (nat_le number most) Range
+  Ok number
 
 -- the data nibbles that a field of 1 to 6 hexadecimal digits spells; Number for another spelling
 unfoldable pub data_in : List ℕ → Result (List ℕ) TextFault

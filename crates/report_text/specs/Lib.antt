@@ -3,6 +3,10 @@ pub mod Fields
 pub mod Decimals
 pub mod Hex
 pub mod Sent
+pub mod Spc
+pub mod Codes
+pub mod Psi5
+pub mod Downlink
 pub mod Rules
 pub mod Gaps
 pub mod Reports

@@ -8,8 +8,11 @@ use Rattle.report_text.specs.declared.fault.TextFault.TheVariants.{Word, End}
 use Rattle.line_base.specs.Steps.{◌>>=◌, check}
 use Rattle.line_base.specs.Texts.{looked_up}
 use Rattle.report_text.specs.Fields.{line_of, fields_of, field_read, value_read}
-use Rattle.report_text.specs.Decimals.{two_digits, channel_in, number_spelled}
+use Rattle.report_text.specs.Decimals.{IsBetween, two_digits, channel_in, number_spelled}
 use Rattle.report_text.specs.Sent.{IsFrameTold, IsValueTold, IsEnhancedTold, frame_fields, value_fields, counter_fields, short_fields, enhanced_fields, frame_read, one_read, two_read, secure_read, split_read, counter_read, short_read, narrow_read, wide_read}
+use Rattle.report_text.specs.Spc.{IsAnswerTold, answer_fields, no_answer_fields, answer_read, no_answer_read}
+use Rattle.report_text.specs.Psi5.{IsBurstTold, burst_fields, block_fields, done_fields, burst_read, init_read, done_read}
+use Rattle.report_text.specs.Downlink.{IsDownTold, down_fields, down_read}
 use Rattle.report_text.specs.Rules.{bad_fields, bad_read}
 use Rattle.report_text.specs.Gaps.{IsGapTold, gap_fields, gap_read}
 
@@ -20,6 +23,12 @@ says (what.Fast value) = value_fields value
 says (what.Counter before now) = counter_fields before now
 says (what.Short id value) = short_fields id value
 says (what.Enhanced id value wide) = enhanced_fields id value wide
+says (what.Answer code frame) = answer_fields code frame
+says (what.NoAnswer code) = no_answer_fields code
+says (what.Burst slot payload code) = burst_fields slot payload code
+says (what.Block id value) = block_fields id value
+says (what.Done blocks) = done_fields blocks
+says (what.Down down) = down_fields down
 says (what.Bad rule) = bad_fields rule
 says (what.Gap count) = gap_fields count
 
@@ -30,6 +39,12 @@ IsTold (what.Fast value) = IsValueTold value
 IsTold (what.Counter before now) = (before < 16 ^ 2) × (now < 16 ^ 2)
 IsTold (what.Short id value) = (id < 16 ^ 1) × (value < 16 ^ 2)
 IsTold (what.Enhanced id value wide) = IsEnhancedTold id value wide
+IsTold (what.Answer code frame) = IsAnswerTold code frame
+IsTold (what.NoAnswer code) = IsBetween 0 7 code
+IsTold (what.Burst slot payload code) = IsBurstTold slot payload code
+IsTold (what.Block id value) = IsBetween 1 16 id × (value < 16 ^ 1)
+IsTold (what.Done blocks) = blocks < 2 ^ 64
+IsTold (what.Down down) = IsDownTold down
 IsTold (what.Bad rule) = Unit {0}
 IsTold (what.Gap count) = IsGapTold count
 
@@ -54,6 +69,12 @@ keywords =
     ∷ (codes "short", short_read)
     ∷ (codes "enhanced8", narrow_read)
     ∷ (codes "enhanced4", wide_read)
+    ∷ (codes "answer", answer_read)
+    ∷ (codes "noanswer", no_answer_read)
+    ∷ (codes "psi5", burst_read)
+    ∷ (codes "init", init_read)
+    ∷ (codes "initdone", done_read)
+    ∷ (codes "down", down_read)
     ∷ (codes "bad", bad_read)
     ∷ (codes "gap", gap_read)
     ∷ []

@@ -11,9 +11,13 @@ use Rattle.line_base.specs.Steps.{◌>>=◌}
 use Rattle.report_text.specs.Fields.{value_read}
 use Rattle.report_text.specs.Hex.{hex_digit, hex_text, hex_in, data_in}
 
+-- the status and the data nibbles of a frame
+abbrev pub parts_fields : SentFrame → List (List ℕ)
+parts_fields frame = hex_text 1 frame.status ∷ map hex_digit frame.nibbles ∷ []
+
 -- the fields of a frame: its status and its data nibbles
 abbrev pub frame_fields : SentFrame → List (List ℕ)
-frame_fields frame = codes "frame" ∷ hex_text 1 frame.status ∷ map hex_digit frame.nibbles ∷ []
+frame_fields frame = codes "frame" ∷ parts_fields frame
 
 -- the fields of a value; none where the nibbles alone are told
 abbrev pub value_fields : Fast → List (List ℕ)
@@ -54,12 +58,18 @@ abbrev pub IsEnhancedTold : ℕ → ℕ → Bool → Type 0
 IsEnhancedTold id value false = (id < 16 ^ 2) × (value < 16 ^ 3)
 IsEnhancedTold id value true = (id < 16 ^ 1) × (value < 16 ^ 4)
 
+-- the status and the data nibbles of a frame, as they are read
+unfoldable pub parts_read : List (List ℕ) → Result (SentFrame × List (List ℕ)) TextFault
+parts_read fields = do
+  status ← value_read (hex_in 1) fields
+  nibbles ← value_read data_in status.1
+  Ok (record { status = status.0; nibbles = nibbles.0 }, nibbles.1)
+
 -- what is read behind `frame`: the status and the data nibbles
 unfoldable pub frame_read : List (List ℕ) → Result (What × List (List ℕ)) TextFault
 frame_read fields = do
-  status ← value_read (hex_in 1) fields
-  nibbles ← value_read data_in status.1
-  Ok (what.Frame (record { status = status.0; nibbles = nibbles.0 }), nibbles.1)
+  frame ← parts_read fields
+  Ok (what.Frame frame.0, frame.1)
 
 -- what is read behind `one`
 unfoldable pub one_read : List (List ℕ) → Result (What × List (List ℕ)) TextFault

@@ -1,7 +1,7 @@
 //! Decimal numbers in a line.
 ghost use Rattle.std.specs.Prelude.{◌≡◌, ◌+◌, ◌^◌, ◌<◌, ◌≤◌, ◌++◌, IfOk, SomeIff, decimal, length};
 ghost use Rattle.line_base.specs.Texts.{number_after};
-ghost use Rattle.report_text.specs.Decimals.{two_digits, digit_in, channel_in, has_leading_zero, number_spelled, count_spelled};
+ghost use Rattle.report_text.specs.Decimals.{two_digits, digit_in, channel_in, has_leading_zero, number_spelled, count_spelled, IsBetween, number_between};
 ghost use Rattle.report_text.specs.Fields.{value_read};
 ghost use Rattle.report_text.specs.Readings.{Reads, left};
 
@@ -21,6 +21,16 @@ pub fn push_decimal<const N: usize>(out: &mut ArrayString<N>, number: u64)
     out.push_str(buffer.format(number));
 }
 
+/// Adds a number below 256 in decimal, at most 3 digits.
+pub(crate) fn push_small<const N: usize>(out: &mut ArrayString<N>, number: u8)
+    requires { length out.old.bytes + 3 ≤ N }
+    ensures bytes { out.new.bytes ≡ out.old.bytes ++ decimal number }
+    ensures len { length out.new.bytes ≤ length out.old.bytes + 3 }
+{
+    let mut buffer = Buffer::new();
+    out.push_str(buffer.format(number));
+}
+
 /// Adds a channel's number in two decimal digits.
 pub(crate) fn push_channel<const N: usize>(out: &mut ArrayString<N>, channel: u8)
     requires room { length out.old.bytes + 2 ≤ N }
@@ -33,7 +43,7 @@ pub(crate) fn push_channel<const N: usize>(out: &mut ArrayString<N>, channel: u8
 }
 
 /// The value of a decimal digit, or `Number`.
-fn digit_of(byte: u8) -> Result<u8, TextFault>
+pub(crate) fn digit_of(byte: u8) -> Result<u8, TextFault>
     ensures value { result ≡ digit_in byte }
     ensures below { IfOk result (λ digit. digit < 10) }
 {
@@ -90,7 +100,7 @@ fn has_leading_zero(field: &[u8]) -> bool
 /// The number below 2^64 of a field; `Number` where it isn't decimal digits without a leading zero, `Range`
 /// from 2^64 on.
 #[tactic(auto, unfolding(crate::specs::Decimals::number_spelled))]
-fn number_of(field: &[u8]) -> Result<u64, TextFault>
+pub(crate) fn number_of(field: &[u8]) -> Result<u64, TextFault>
     ensures { result ≡ number_spelled field.now }
 {
     text::number_of(field).ok_or(TextFault::Number)?;
@@ -110,6 +120,20 @@ fn count_of(field: &[u8]) -> Result<u64, TextFault>
         return Err(TextFault::Range);
     }
     Ok(count)
+}
+
+/// The number from `low` to `high` of a field; the faults of a number, and `Range` outside.
+#[tactic(auto, unfolding(crate::specs::Decimals::number_between))]
+pub(crate) fn number_between(low: u16, high: u16, field: &[u8]) -> Result<u16, TextFault>
+    ensures value { result ≡ number_between low high field.now }
+    ensures range { IfOk result (λ number. IsBetween low high number) }
+{
+    let number = number_of(field)?;
+    if number >= u64::from(low) && number <= u64::from(high) {
+        Ok(number as u16)
+    } else {
+        Err(TextFault::Range)
+    }
 }
 
 /// The channel, 0 to 15, of the next field.
@@ -137,4 +161,18 @@ pub(crate) fn read_count<'a>(rest: Rest<'a>) -> Result<(u64, Rest<'a>), TextFaul
 {
     let (field, rest) = next_field(rest)?;
     Ok((count_of(field)?, rest))
+}
+
+/// The number from `low` to `high` of the next field, both below 256.
+#[tactic(auto, unfolding(crate::specs::Fields::value_read))]
+pub(crate) fn read_between<'a>(
+    low: u8,
+    high: u8,
+    rest: Rest<'a>,
+) -> Result<(u8, Rest<'a>), TextFault>
+    ensures { Reads result (value_read (number_between low high) (left rest.entry)) }
+{
+    let (field, rest) = next_field(rest)?;
+    let number = number_between(u16::from(low), u16::from(high), field)?;
+    Ok((number as u8, rest))
 }

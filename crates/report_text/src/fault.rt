@@ -5,13 +5,14 @@ ghost use Rattle.report_text.specs.Faults.{text_fault_number};
 /// The first thing that is wrong with a text that is no line of a report, from the left.
 #[derive(Clone, Copy, Debug, PartialEq, Eq)]
 pub enum TextFault {
-    /// A field is needed and the text has ended or the field is empty, or a word is no keyword or no name of
-    /// a rule.
+    /// A field is needed and the text has ended or the field is empty, or a word is no keyword, no name of a
+    /// rule or no word of what data A says.
     Word,
-    /// A number isn't in its spelling: a wrong digit, a wrong number of hexadecimal digits, a leading zero.
+    /// A number isn't in its spelling: a wrong digit, a wrong number of hexadecimal digits, a leading zero, a
+    /// hyphen without a number or before a 0, a slot of more than one digit.
     Number,
     /// A number is spelled right and is outside its range: a channel above 15, a place or a count of 2^64 or
-    /// more, a gap of no edges.
+    /// more, a gap of no edges, a slot above 7.
     Range,
     /// The text goes on behind the last field.
     End,

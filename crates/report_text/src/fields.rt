@@ -1,4 +1,6 @@
 //! The fields of a line, from the left.
+ghost use Rattle.std.specs.Prelude.{◌≡◌};
+ghost use Rattle.std.specs.Str.{bytes_eq};
 ghost use Rattle.report_text.specs.Fields.{field_read};
 ghost use Rattle.report_text.specs.Readings.{FieldReads, left};
 
@@ -19,4 +21,11 @@ pub(crate) fn next_field<'a>(rest: Rest<'a>) -> Result<(&'a [u8], Rest<'a>), Tex
         return Err(TextFault::Word);
     }
     Ok((field, rest))
+}
+
+/// Whether a word is this one.
+pub(crate) fn spells(word: &[u8], name: &[u8]) -> bool
+    ensures { result ≡ bytes_eq word.now name.now }
+{
+    word == name
 }

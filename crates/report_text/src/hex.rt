@@ -1,7 +1,7 @@
 //! Hexadecimal digits in a line, in upper case.
 ghost use Rattle.std.specs.Prelude.{◌≡◌, ◌+◌, ◌^◌, ◌<◌, ◌≤◌, ◌++◌, [], ◌∷◌, All, IfOk, length, map};
 ghost use Rattle.line_base.specs.Nibbles.{AreNibbles};
-ghost use Rattle.report_text.specs.Hex.{hex_digit, hex_text, nibble_in, hex_in, data_in};
+ghost use Rattle.report_text.specs.Hex.{hex_digit, hex_text, nibble_in, hex_in, hex_to, data_in};
 ghost use Rattle.report_text.specs.Fields.{value_read};
 ghost use Rattle.report_text.specs.Readings.{Reads, left};
 
@@ -79,6 +79,21 @@ fn number_of(width: usize, field: &[u8]) -> Result<u32, TextFault>
     Ok(number)
 }
 
+/// Such a number of at most `most`; `Range` above it.
+#[tactic(auto, unfolding(crate::specs::Hex::hex_to))]
+fn number_to(width: usize, most: u32, field: &[u8]) -> Result<u32, TextFault>
+    requires { width ≤ 7 }
+    ensures value { result ≡ hex_to width most field.now }
+    ensures most { IfOk result (λ number. number ≤ most) }
+{
+    let number = number_of(width, field)?;
+    if number <= most {
+        Ok(number)
+    } else {
+        Err(TextFault::Range)
+    }
+}
+
 /// The data nibbles of a field of 1 to 6 hexadecimal digits; `Number` for another spelling.
 fn data_of(field: &[u8]) -> Result<Nibbles, TextFault>
     ensures { result ≡ data_in field.now }
@@ -102,6 +117,21 @@ pub(crate) fn read_hex<'a>(width: usize, rest: Rest<'a>) -> Result<(u32, Rest<'a
 {
     let (field, rest) = next_field(rest)?;
     Ok((number_of(width, field)?, rest))
+}
+
+/// The number of the next field, of so many hexadecimal digits, at most 7, and of at most `most`.
+#[tactic(auto, unfolding(crate::specs::Fields::value_read))]
+pub(crate) fn read_hex_to<'a>(
+    width: usize,
+    most: u32,
+    rest: Rest<'a>,
+) -> Result<(u32, Rest<'a>), TextFault>
+    requires { width ≤ 7 }
+    ensures value { Reads result (value_read (hex_to width most) (left rest.entry)) }
+    ensures most { IfOk result (λ found. found.0 ≤ most) }
+{
+    let (field, rest) = next_field(rest)?;
+    Ok((number_to(width, most, field)?, rest))
 }
 
 /// The data nibbles of the next field, 1 to 6.

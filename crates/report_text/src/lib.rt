@@ -5,14 +5,18 @@
 //! words, their spellings and the order of the faults are this project's own.
 #![tactic(auto)]
 
+mod code;
 mod decimal;
+mod downlink;
 mod fault;
 mod fields;
 mod gaps;
 mod hex;
 mod line;
+mod psi5;
 mod rules;
 mod sent;
+mod spc;
 #[cfg(test)]
 mod tests;
 mod totals;

@@ -1,6 +1,5 @@
 //! The line of a report, and the report of a line.
 ghost use Rattle.std.specs.Prelude.{◌≡◌, ◌↔◌, ℕ, ◌<◌, ◌≤◌, ◌==◌, ◌++◌, [], Ok, length};
-ghost use Rattle.std.specs.Str.{bytes_eq};
 ghost use Rattle.line_base.specs.Steps.{check};
 ghost use Rattle.receiver_core.specs.declared.report.Report.{Report};
 ghost use Rattle.report_text.specs.declared.fault.TextFault.{TextFault};
@@ -9,11 +8,12 @@ ghost use Rattle.report_text.specs.Readings.{Reads, left};
 ghost use Rattle.report_text.specs.Reports.{IsTellable, says, report_text, behind_word, what_read, report_read};
 
 use crate::decimal::{push_channel, push_decimal, read_channel, read_number};
+use crate::downlink::{push_down, read_down};
 use crate::fault::TextFault;
-use crate::fields::{Rest, next_field};
+use crate::fields::{Rest, next_field, spells};
 use crate::gaps::{push_gap, read_gap};
 use crate::rules::{push_bad, read_bad};
-use crate::sent;
+use crate::{psi5, sent, spc};
 use arrayvec::ArrayString;
 use receiver_core::{Report, What};
 
@@ -24,7 +24,7 @@ pub const LINE_ROOM: usize = 96;
 fn push_what(out: &mut ArrayString<LINE_ROOM>, what: &What)
     requires { length out.old.bytes ≤ 24 }
     ensures bytes { out.new.bytes ≡ out.old.bytes ++ spaced (says what.now) }
-    ensures len { length out.new.bytes ≤ 56 }
+    ensures len { length out.new.bytes ≤ 80 }
 {
     match what {
         What::Frame(frame) => sent::push_frame(out, frame),
@@ -32,6 +32,16 @@ fn push_what(out: &mut ArrayString<LINE_ROOM>, what: &What)
         What::Counter { before, now } => sent::push_counter(out, *before, *now),
         What::Short { id, value } => sent::push_short(out, *id, *value),
         What::Enhanced { id, value, wide } => sent::push_enhanced(out, *id, *value, *wide),
+        What::Answer { code, frame } => spc::push_answer(out, *code, frame),
+        What::NoAnswer { code } => spc::push_no_answer(out, *code),
+        What::Burst {
+            slot,
+            payload,
+            code,
+        } => psi5::push_burst(out, *slot, payload, code),
+        What::Block { id, value } => psi5::push_block(out, *id, *value),
+        What::Done { blocks } => psi5::push_done(out, *blocks),
+        What::Down(down) => push_down(out, down),
         What::Bad(rule) => push_bad(out, *rule),
         What::Gap { count } => push_gap(out, *count),
     }
@@ -49,13 +59,6 @@ pub fn write_report(channel: u8, report: &Report, out: &mut ArrayString<LINE_ROO
     out.push(' ');
     push_decimal(out, report.place);
     push_what(out, &report.what);
-}
-
-/// Whether a word is this one.
-fn spells(word: &[u8], name: &[u8]) -> bool
-    ensures { result ≡ bytes_eq word.now name.now }
-{
-    word == name
 }
 
 /// What stands behind a keyword; `Word` for no keyword.
@@ -81,6 +84,18 @@ fn read_behind<'a>(word: &[u8], rest: Rest<'a>) -> Result<(What, Rest<'a>), Text
         sent::read_narrow(rest)
     } else if spells(word, b"enhanced4") {
         sent::read_wide(rest)
+    } else if spells(word, b"answer") {
+        spc::read_answer(rest)
+    } else if spells(word, b"noanswer") {
+        spc::read_no_answer(rest)
+    } else if spells(word, b"psi5") {
+        psi5::read_burst(rest)
+    } else if spells(word, b"init") {
+        psi5::read_init(rest)
+    } else if spells(word, b"initdone") {
+        psi5::read_done(rest)
+    } else if spells(word, b"down") {
+        read_down(rest)
     } else if spells(word, b"bad") {
         read_bad(rest)
     } else if spells(word, b"gap") {
@@ -127,10 +142,10 @@ fn report_of(text: &[u8]) -> Result<(u8, Report), TextFault>
 }
 
 /// The channel, 0 to 15, and the report whose line, without its LF, a text is; else the first fault from the
-/// left. `Word`: a field is needed and the text has ended or the field is empty, or a word is no keyword or no
-/// name of a rule. `Number`: a wrong digit, a wrong number of hexadecimal digits, or a leading zero. `Range`: a
-/// channel above 15, a place or a count of 2^64 or more, or a gap of no edges. `End`: the text goes on behind
-/// the last field.
+/// left. `Word`: a field is needed and the text has ended or the field is empty, or a word is no keyword, no
+/// name of a rule or no word of what data A says. `Number`: a number isn't in its spelling. `Range`: a number is
+/// outside its range, as a channel above 15, a place of 2^64 or more, or a gap of no edges. `End`: the text goes
+/// on behind the last field. What data A says isn't compared with data A.
 pub fn read_report(text: &str) -> Result<(u8, Report), TextFault>
     ensures value { result ≡ report_read text.now }
     ensures exact { (channel : ℕ) (report : Report) → (result ≡ Ok (channel, report)) ↔ ((text.now ≡ report_text channel report) × (channel < 16) × IsTellable report) }

@@ -1,9 +1,9 @@
 //! The lines of a SENT channel: frames, their values, jumps of the counter and serial messages.
-ghost use Rattle.std.specs.Prelude.{◌≡◌, ◌≤◌, ◌++◌, ◌∷◌, length};
-ghost use Rattle.report_text.specs.Fields.{spaced};
+ghost use Rattle.std.specs.Prelude.{◌≡◌, ◌+◌, ◌≤◌, ◌++◌, ◌∷◌, length};
+ghost use Rattle.report_text.specs.Fields.{line_of, spaced};
 ghost use Rattle.report_text.specs.Hex.{hex_text};
 ghost use Rattle.report_text.specs.Readings.{Reads, left};
-ghost use Rattle.report_text.specs.Sent.{frame_fields, value_fields, counter_fields, short_fields, enhanced_fields, frame_read, one_read, two_read, secure_read, split_read, counter_read, short_read, narrow_read, wide_read};
+ghost use Rattle.report_text.specs.Sent.{parts_fields, frame_fields, value_fields, counter_fields, short_fields, enhanced_fields, parts_read, frame_read, one_read, two_read, secure_read, split_read, counter_read, short_read, narrow_read, wide_read};
 
 use crate::fault::TextFault;
 use crate::fields::Rest;
@@ -30,6 +30,17 @@ fn push_two(out: &mut ArrayString<LINE_ROOM>, word: &str, first: (usize, u32), s
     push_hex(out, second.0, second.1);
 }
 
+/// Adds a frame's status and its data nibbles, without the space before them.
+pub(crate) fn push_parts(out: &mut ArrayString<LINE_ROOM>, frame: &SentFrame)
+    requires { length out.old.bytes ≤ 48 }
+    ensures bytes { out.new.bytes ≡ out.old.bytes ++ line_of (parts_fields frame.now) }
+    ensures len { length out.new.bytes ≤ length out.old.bytes + 8 }
+{
+    push_hex(out, 1, u32::from(frame.status));
+    out.push(' ');
+    push_nibbles(out, frame.nibbles.values());
+}
+
 /// Adds what a frame says: its status and its data nibbles.
 pub(crate) fn push_frame(out: &mut ArrayString<LINE_ROOM>, frame: &SentFrame)
     requires { length out.old.bytes ≤ 24 }
@@ -37,9 +48,7 @@ pub(crate) fn push_frame(out: &mut ArrayString<LINE_ROOM>, frame: &SentFrame)
     ensures len { length out.new.bytes ≤ 56 }
 {
     out.push_str(" frame ");
-    push_hex(out, 1, u32::from(frame.status));
-    out.push(' ');
-    push_nibbles(out, frame.nibbles.values());
+    push_parts(out, frame);
 }
 
 /// Adds the value of a frame's nibbles; nothing where the nibbles alone are told.
@@ -113,23 +122,33 @@ pub(crate) fn push_enhanced(out: &mut ArrayString<LINE_ROOM>, id: u8, value: u16
     }
 }
 
+/// The status and the data nibbles of a frame.
+#[tactic(auto, unfolding(crate::specs::Sent::parts_read))]
+pub(crate) fn read_parts<'a>(rest: Rest<'a>) -> Result<(SentFrame, Rest<'a>), TextFault>
+    ensures { Reads result (parts_read (left rest.entry)) }
+{
+    let (status, rest) = read_hex(1, rest)?;
+    match read_data(rest) {
+        Ok((nibbles, rest)) => Ok((
+            SentFrame {
+                status: status as u8,
+                nibbles,
+            },
+            rest,
+        )),
+        Err(fault) => Err(fault),
+    }
+}
+
 /// What stands behind `frame`: the status and the data nibbles.
 #[tactic(auto, unfolding(crate::specs::Sent::frame_read))]
 pub(crate) fn read_frame<'a>(rest: Rest<'a>) -> Result<(What, Rest<'a>), TextFault>
     ensures { Reads result (frame_read (left rest.entry)) }
 {
-    let (status, rest) = read_hex(1, rest)?;
-    let (nibbles, rest) = match read_data(rest) {
-        Ok(found) => found,
-        Err(fault) => return Err(fault),
-    };
-    Ok((
-        What::Frame(SentFrame {
-            status: status as u8,
-            nibbles,
-        }),
-        rest,
-    ))
+    match read_parts(rest) {
+        Ok((frame, rest)) => Ok((What::Frame(frame), rest)),
+        Err(fault) => Err(fault),
+    }
 }
 
 /// What stands behind `one`.

@@ -3,6 +3,9 @@
 
 ghost use Rattle.std.specs.Prelude.{◌<◌};
 
+mod psi5;
+mod spc;
+
 use super::*;
 use arrayvec::ArrayString;
 use line_base::{Nibbles, Rule};
