@@ -10,7 +10,7 @@ use Rattle.link_words.specs.declared.setting.Setting.{Setting}
 use Rattle.link_words.specs.Settings.{place_of, value_at}
 use Rattle.link_words.specs.Choices.{Holds}
 
-place_below : (key : Key) → place_of key < 8
+place_below : (key : Key) → place_of key < 24
 unfolding place_of
 place_below key.Line = lit< tt
 place_below key.Tick = lit< tt
@@ -20,8 +20,24 @@ place_below key.Pause = lit< tt
 place_below key.Crc = lit< tt
 place_below key.Layout = lit< tt
 place_below key.Serial = lit< tt
+place_below key.Rate = lit< tt
+place_below key.Messaging = lit< tt
+place_below key.Control = lit< tt
+place_below key.Status = lit< tt
+place_below key.DataB = lit< tt
+place_below key.DataA = lit< tt
+place_below key.Check = lit< tt
+place_below key.Sync = lit< tt
+place_below key.Slots = lit< tt
+place_below key.Init = lit< tt
+place_below key.Cover = lit< tt
+place_below key.Windows = lit< tt
+place_below key.Delay = lit< tt
+place_below key.Quiet = lit< tt
+place_below key.Period = lit< tt
+place_below key.Form = lit< tt
 
-none_at : (key : Key) (other : Option Value) → get_or (replicate 8 None) (place_of key) other ≡ None
+none_at : (key : Key) (other : Option Value) → get_or (replicate 24 None) (place_of key) other ≡ None
 unfolding place_of
 none_at key.Line other = refl
 none_at key.Tick other = refl
@@ -31,9 +47,25 @@ none_at key.Pause other = refl
 none_at key.Crc other = refl
 none_at key.Layout other = refl
 none_at key.Serial other = refl
+none_at key.Rate other = refl
+none_at key.Messaging other = refl
+none_at key.Control other = refl
+none_at key.Status other = refl
+none_at key.DataB other = refl
+none_at key.DataA other = refl
+none_at key.Check other = refl
+none_at key.Sync other = refl
+none_at key.Slots other = refl
+none_at key.Init other = refl
+none_at key.Cover other = refl
+none_at key.Windows other = refl
+none_at key.Delay other = refl
+none_at key.Quiet other = refl
+none_at key.Period other = refl
+none_at key.Form other = refl
 
 -- at first nothing is set
-pub none_held : Holds (record { values = replicate 8 None }) []
+pub none_held : Holds (record { values = replicate 24 None }) []
 unfolding value_at
 none_held = record { counted = refl; each = none_at }
 

@@ -8,5 +8,5 @@ use Rattle.link_words.specs.Settings.{place_of, value_at}
 
 -- what is kept at the place of each key is its first value among these settings, if it has one there
 pub record Holds (chosen : Chosen) (settings : List Setting) : Type 0 where
-  pub counted : length chosen.values ≡ 8
+  pub counted : length chosen.values ≡ 24
   pub each : (key : Key) (other : Option Value) → slice_index_or chosen.values (place_of key) other ≡ value_at key settings

@@ -1,7 +1,11 @@
 pub mod Setups
+pub mod Spans
 pub mod Values
 pub mod Settings
 pub mod Choices
 pub mod Sent
+pub mod Psi5
+pub mod Spc
+pub mod Tooth
 pub mod Specs
 pub mod Commands

@@ -8,19 +8,13 @@ use Rattle.sent_fast.specs.declared.layout.Layout.TheVariants.{Raw}
 use Rattle.receiver_core.specs.declared.setup.Serial.TheVariants as serials
 use Rattle.receiver_core.specs.declared.setup.ChannelSetup.{ChannelSetup}
 use Rattle.receiver_core.specs.declared.setup.ChannelSetup.TheVariants.{Sent}
-use Rattle.link_words.specs.declared.value.Values.{Values}
 use Rattle.link_words.specs.declared.value.Values.TheVariants as values
-use Rattle.link_words.specs.declared.setting.Key.{Key}
 use Rattle.link_words.specs.declared.setting.Key.TheVariants as key
 use Rattle.link_words.specs.declared.setting.Row.{Row}
 use Rattle.link_words.specs.declared.setting.Setting.{Setting}
 use Rattle.line_base.specs.Texts.{looked_up}
-use Rattle.link_words.specs.Settings.{count_at, time_at, answer_at, crc_at, layout_at, serial_at}
+use Rattle.link_words.specs.Settings.{row, count_at, time_at, answer_at, crc_at, layout_at, serial_at}
 use Rattle.line_base.specs.Steps.{◌>>=◌, check}
-
--- a row of the table: a key and what its value may be
-abbrev pub row : Key → Values → Row
-row key values = record { key = key; values = values }
 
 -- the table of the keys by their names, with times in ns: the row that a text names
 unfoldable pub sent_row : List ℕ → Option Row

@@ -1,5 +1,5 @@
 -- The words that name a channel: a kind, a colon, and pairs of a key and its value; this project's own.
-use Rattle.std.specs.Prelude.{ℕ, ◌==◌, not, ok_or, unwrap_or, is_none, Option, None, Some, Result, Ok, Err, List, [], ◌∷◌, if◌then◌else◌, codes}
+use Rattle.std.specs.Prelude.{ℕ, ◌==◌, not, ok_or, is_none, Option, None, Some, Result, Ok, Err, List, [], ◌∷◌, if◌then◌else◌, codes}
 use Rattle.std.specs.List.{slice_split}
 use Rattle.line_base.specs.declared.faults.WordFault.{WordFault}
 use Rattle.line_base.specs.declared.faults.WordFault.TheVariants as fault
@@ -13,24 +13,33 @@ use Rattle.link_words.specs.declared.spec.Kind.TheVariants as kind
 use Rattle.link_words.specs.Values.{value_in}
 use Rattle.link_words.specs.Settings.{has_key}
 use Rattle.link_words.specs.Sent.{sent_row, sent_channel}
+use Rattle.link_words.specs.Spc.{spc_row, spc_channel}
+use Rattle.link_words.specs.Psi5.{psi5_row, psi5_channel}
+use Rattle.link_words.specs.Tooth.{tooth_row, tooth_channel}
 use Rattle.line_base.specs.Steps.{◌>>=◌, check}
 
--- the table of the kinds by their names: the kind that a text names; NotBuilt for a kind that isn't built yet, and Kind for what is no kind
+-- the table of the kinds by their names: the kind that a text names; Kind for what is no kind
 unfoldable pub kind_in : List ℕ → Result Kind WordFault
-kind_in text = unwrap_or (looked_up
-    ((codes "sent", Ok kind.Sent)
-    ∷ (codes "spc", Err fault.NotBuilt)
-    ∷ (codes "psi5", Err fault.NotBuilt)
-    ∷ (codes "tooth", Err fault.NotBuilt)
-    ∷ []) text) (Err fault.Kind)
+kind_in text = ok_or (looked_up
+    ((codes "sent", kind.Sent)
+    ∷ (codes "spc", kind.Spc)
+    ∷ (codes "psi5", kind.Psi5)
+    ∷ (codes "tooth", kind.Tooth)
+    ∷ []) text) fault.Kind
 
 -- the row of the key that a text names, if the kind has it
 abbrev pub row_in : Kind → List ℕ → Option Row
 row_in kind.Sent name = sent_row name
+row_in kind.Spc name = spc_row name
+row_in kind.Psi5 name = psi5_row name
+row_in kind.Tooth name = tooth_row name
 
 -- the channel of a kind that is set; Absent where a required key isn't there, else Setup where its setup is refused
 abbrev pub channel_set : Kind → List Setting → Result ChannelSetup WordFault
 channel_set kind.Sent settings = sent_channel settings
+channel_set kind.Spc settings = spc_channel settings
+channel_set kind.Psi5 settings = psi5_channel settings
+channel_set kind.Tooth settings = tooth_channel settings
 
 -- what a key and its value say behind these settings: Key where there is no value, where the kind hasn't the key, or where the key stands before; else Value where the value is outside its row
 unfoldable pub parts_read : Kind → List Setting → List ℕ × Option (List ℕ) → Result Setting WordFault

@@ -95,7 +95,10 @@ fn read_setup(place: u64, spec: &[u8]) -> Result<ChannelSetup, WordsFault>
     ensures value { result ≡ spec_at place spec.now }
     ensures faultless { IfOk result (λ setup. setup_fault_of setup ≡ None) }
 {
-    read_spec(spec).map_err(|fault| WordsFault { place, fault })
+    match read_spec(spec) {
+        Ok(setup) => Ok(setup),
+        Err(fault) => Err(WordsFault { place, fault }),
+    }
 }
 
 /// The setups that the words behind the command name, or the first word that is refused.

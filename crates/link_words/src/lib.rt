@@ -7,12 +7,16 @@
 #![tactic(auto)]
 
 mod command;
+mod psi5;
 mod sent;
 mod setting;
 mod setups;
+mod spans;
+mod spc;
 mod spec;
 #[cfg(test)]
 mod tests;
+mod tooth;
 mod value;
 
 pub use command::{Command, WordsFault, read_words};

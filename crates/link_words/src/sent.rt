@@ -59,7 +59,7 @@ pub(crate) fn row_of(name: &[u8]) -> Option<Row>
 
 /// The frames that are set, or `Setup`.
 #[tactic(auto, unfolding(crate::specs::Sent::sent_frames))]
-fn frames_of(chosen: &Chosen) -> Result<SentSetup, WordFault>
+pub(crate) fn frames_of(chosen: &Chosen) -> Result<SentSetup, WordFault>
     ensures { (settings : List Setting) → Holds chosen.now settings → result ≡ sent_frames settings }
 {
     let tick = chosen.time(Key::Tick).unwrap_or(USUAL_TICK);

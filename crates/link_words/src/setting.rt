@@ -1,14 +1,17 @@
 //! The keys of SPECs, and what the pairs of one SPEC have set so far.
 ghost use Rattle.std.specs.Prelude.{◌≡◌, ◌<◌, List, [], ◌∷◌};
-ghost use Rattle.link_words.specs.Settings.{place_of, value_at, count_at, time_at, answer_at, crc_at, layout_at, serial_at};
+ghost use Rattle.link_words.specs.Settings.{place_of, value_at, count_at, time_at, answer_at, crc_at, layout_at, serial_at, span_at, spans_at, check_at, form_at, cover_at};
 
 use crate::value::{Value, Values};
+use line_base::{Span, Spans};
+use psi5_downlink::Form;
+use psi5_frame::Check;
 use receiver_core::Serial;
 use sent_fast::Layout;
-use sent_frame::CrcForm;
+use sent_frame::{Cover, CrcForm};
 
 /// How many keys there are.
-const KEYS: usize = 8;
+const KEYS: usize = 24;
 
 /// What can be set of a channel.
 #[derive(Clone, Copy)]
@@ -29,6 +32,38 @@ pub(crate) enum Key {
     Layout,
     /// Which serial messages the status nibbles carry.
     Serial,
+    /// How many bits a PSI5 line carries in a second.
+    Rate,
+    /// How many messaging bits a PSI5 frame has.
+    Messaging,
+    /// How many frame control bits it has.
+    Control,
+    /// How many status bits it has.
+    Status,
+    /// How many bits its data B has.
+    DataB,
+    /// How many bits its data A has.
+    DataA,
+    /// What it ends with.
+    Check,
+    /// The sync line.
+    Sync,
+    /// The windows of the slots behind a sync pulse.
+    Slots,
+    /// How often a block of an initialisation is sent.
+    Init,
+    /// What the CRC of an SPC answer covers.
+    Cover,
+    /// The windows of a trigger's width.
+    Windows,
+    /// The delay of an answer.
+    Delay,
+    /// The quiet time before a trigger.
+    Quiet,
+    /// The nominal sync period of a downlink.
+    Period,
+    /// The form of a downlink frame.
+    Form,
 }
 
 /// A key of a kind of channel, and what its value may be.
@@ -53,7 +88,7 @@ pub(crate) struct Setting {
 #[tactic(auto, unfolding(crate::specs::Settings::place_of))]
 fn place_of(key: Key) -> usize
     ensures value { result ≡ place_of key }
-    ensures within { result < 8 }
+    ensures within { result < 24 }
 {
     match key {
         Key::Line => 0,
@@ -64,6 +99,22 @@ fn place_of(key: Key) -> usize
         Key::Crc => 5,
         Key::Layout => 6,
         Key::Serial => 7,
+        Key::Rate => 8,
+        Key::Messaging => 9,
+        Key::Control => 10,
+        Key::Status => 11,
+        Key::DataB => 12,
+        Key::DataA => 13,
+        Key::Check => 14,
+        Key::Sync => 15,
+        Key::Slots => 16,
+        Key::Init => 17,
+        Key::Cover => 18,
+        Key::Windows => 19,
+        Key::Delay => 20,
+        Key::Quiet => 21,
+        Key::Period => 22,
+        Key::Form => 23,
     }
 }
 
@@ -110,7 +161,7 @@ impl Chosen {
         }
     }
 
-    /// The time that was set for the key, in ns.
+    /// The time that was set for the key, in its unit.
     pub(crate) fn time(&self, key: Key) -> Option<u32>
         ensures { (settings : List Setting) → Holds self.now settings → result ≡ time_at key settings }
     {
@@ -156,6 +207,57 @@ impl Chosen {
     {
         match self.value(key) {
             Some(Value::Serial(serial)) => Some(serial),
+            _ => None,
+        }
+    }
+
+    /// The span that was set for the key.
+    pub(crate) fn span(&self, key: Key) -> Option<Span>
+        ensures { (settings : List Setting) → Holds self.now settings → result ≡ span_at key settings }
+    {
+        match self.value(key) {
+            Some(Value::Span(span)) => Some(span),
+            _ => None,
+        }
+    }
+
+    /// The spans that were set for the key.
+    pub(crate) fn spans(&self, key: Key) -> Option<Spans>
+        ensures { (settings : List Setting) → Holds self.now settings → result ≡ spans_at key settings }
+    {
+        let value = self.value(key)?;
+        match value {
+            Value::Spans(spans) => Some(spans),
+            _ => None,
+        }
+    }
+
+    /// The check of a PSI5 frame that was set for the key.
+    pub(crate) fn check(&self, key: Key) -> Option<Check>
+        ensures { (settings : List Setting) → Holds self.now settings → result ≡ check_at key settings }
+    {
+        match self.value(key) {
+            Some(Value::Check(check)) => Some(check),
+            _ => None,
+        }
+    }
+
+    /// The form of a downlink frame that was set for the key.
+    pub(crate) fn form(&self, key: Key) -> Option<Form>
+        ensures { (settings : List Setting) → Holds self.now settings → result ≡ form_at key settings }
+    {
+        match self.value(key) {
+            Some(Value::Form(form)) => Some(form),
+            _ => None,
+        }
+    }
+
+    /// What the CRC covers, where it was set for the key.
+    pub(crate) fn cover(&self, key: Key) -> Option<Cover>
+        ensures { (settings : List Setting) → Holds self.now settings → result ≡ cover_at key settings }
+    {
+        match self.value(key) {
+            Some(Value::Cover(cover)) => Some(cover),
             _ => None,
         }
     }

@@ -5,9 +5,9 @@ ghost use Rattle.link_words.specs.declared.setting.Setting.{Setting};
 ghost use Rattle.link_words.specs.Choices.{Holds};
 ghost use Rattle.link_words.specs.Specs.{kind_in, row_in, pair_read, pairs_read, pairs_in, channel_set, without_fault, spec_read};
 
-use crate::sent;
 use crate::setting::{Chosen, Row, Setting};
 use crate::value::{spells, value_of};
+use crate::{psi5, sent, spc, tooth};
 use line_base::WordFault;
 use line_base::text::cut;
 use receiver_core::ChannelSetup;
@@ -17,17 +17,27 @@ use receiver_core::ChannelSetup;
 enum Kind {
     /// SENT frames.
     Sent,
+    /// SPC transactions.
+    Spc,
+    /// PSI5 bursts.
+    Psi5,
+    /// Frames of a tooth-gap downlink.
+    Tooth,
 }
 
-/// The kind that a text names; `NotBuilt` for a kind that isn't built yet, else `Kind`.
+/// The kind that a text names, else `Kind`.
 #[tactic(auto, unfolding(crate::specs::Specs::kind_in))]
 fn kind_of(text: &[u8]) -> Result<Kind, WordFault>
     ensures { result ≡ kind_in text.now }
 {
     if spells(text, b"sent") {
         Ok(Kind::Sent)
-    } else if spells(text, b"spc") || spells(text, b"psi5") || spells(text, b"tooth") {
-        Err(WordFault::NotBuilt)
+    } else if spells(text, b"spc") {
+        Ok(Kind::Spc)
+    } else if spells(text, b"psi5") {
+        Ok(Kind::Psi5)
+    } else if spells(text, b"tooth") {
+        Ok(Kind::Tooth)
     } else {
         Err(WordFault::Kind)
     }
@@ -39,6 +49,9 @@ fn row_of(kind: Kind, name: &[u8]) -> Option<Row>
 {
     match kind {
         Kind::Sent => sent::row_of(name),
+        Kind::Spc => spc::row_of(name),
+        Kind::Psi5 => psi5::row_of(name),
+        Kind::Tooth => tooth::row_of(name),
     }
 }
 
@@ -48,6 +61,9 @@ fn channel_of(kind: Kind, chosen: &Chosen) -> Result<ChannelSetup, WordFault>
 {
     match kind {
         Kind::Sent => sent::channel_of(chosen),
+        Kind::Spc => spc::channel_of(chosen),
+        Kind::Psi5 => psi5::channel_of(chosen),
+        Kind::Tooth => tooth::channel_of(chosen),
     }
 }
 
@@ -105,6 +121,11 @@ pub(crate) fn read_spec(text: &[u8]) -> Result<ChannelSetup, WordFault>
     let (kind, pairs) = cut(text, b':');
     let pairs = pairs.ok_or(WordFault::Kind)?;
     let kind = kind_of(kind)?;
-    let chosen = read_pairs(kind, pairs)?;
-    without_fault(channel_of(kind, &chosen)?)
+    match read_pairs(kind, pairs) {
+        Ok(chosen) => match channel_of(kind, &chosen) {
+            Ok(setup) => without_fault(setup),
+            Err(fault) => Err(fault),
+        },
+        Err(fault) => Err(fault),
+    }
 }

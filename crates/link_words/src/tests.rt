@@ -1,5 +1,10 @@
 //! What no clause says, that the definitions are the grammar which was meant: words with what they ask for.
 
+mod keys;
+mod psi5;
+mod spc;
+mod tooth;
+
 use super::*;
 use line_base::WordFault::{self, Absent, Channels, Key, Kind, Missing, NotBuilt, Setup, Value};
 use receiver_core::{ChannelSetup, Serial};
@@ -169,8 +174,8 @@ fn sixteen(alloc: Global) -> Result<Vec<String>, AllocError> {
 fn sixteen_channels_are_accepted(rt: HostRuntime) -> Result<(), AllocError> {
     let command = read_words(&sixteen(rt.alloc())?).expect(&rt, "accepted");
     assert_eq!(rt; command.setups().len(), 16);
-    for (line, setup) in command.setups().iter().enumerate() {
-        assert_eq!(rt; usize::from(setup.line()), line);
+    for (line, setup) in (0..16).zip(command.setups()) {
+        assert!(rt; setup.reads(line), "{line}");
     }
     Ok(())
 }
@@ -254,9 +259,6 @@ fn a_faulty_spec_is_refused_for_its_first_fault(rt: HostRuntime) -> Result<(), A
             ("decode spc", 2, Kind),
             ("decode tent:line=0", 2, Kind),
             ("decode :line=0", 2, Kind),
-            ("decode spc:line=0", 2, NotBuilt),
-            ("decode psi5:x", 2, NotBuilt),
-            ("decode tooth:", 2, NotBuilt),
             ("decode sent:", 2, Key),
             ("decode sent:line", 2, Key),
             ("decode sent:line=0,", 2, Key),
