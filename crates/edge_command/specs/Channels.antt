@@ -1,5 +1,5 @@
 -- What is read of an edge list on its channels, and what is told of each; this project's own.
-use Rattle.std.specs.Prelude.{ℕ, ◌+◌, ◌==◌, ◌||◌, nat_lt, Bool, is_some, List, [], ◌∷◌, ◌++◌, codes, length, drop, filter, flat_map, map, if◌then◌else◌}
+use Rattle.std.specs.Prelude.{ℕ, ◌+◌, ◌||◌, nat_lt, Bool, is_some, List, [], ◌∷◌, ◌++◌, codes, length, drop, filter, flat_map, map, if◌then◌else◌}
 use Rattle.std.specs.List.{list_any}
 use Rattle.line_base.specs.declared.edge.Edge.{Edge}
 use Rattle.line_base.specs.declared.edge.Item.{Item}
@@ -8,7 +8,7 @@ use Rattle.edge_trace.specs.Limits.{whole_edges_of, whole_fault_of}
 use Rattle.receiver_core.specs.declared.report.Report.{Report}
 use Rattle.receiver_core.specs.declared.setup.ChannelSetup.{ChannelSetup}
 use Rattle.receiver_core.specs.declared.tally.Tally.{Tally}
-use Rattle.receiver_core.specs.Setups.{line_of}
+use Rattle.receiver_core.specs.Setups.{reads_line}
 use Rattle.receiver_core.specs.Channels.{so_far, final}
 use Rattle.receiver_core.specs.Tallies.{tally_of}
 use Rattle.report_text.specs.Reports.{report_text}
@@ -16,7 +16,7 @@ use Rattle.report_text.specs.Totals.{total_text}
 
 -- the edge is on a line that the channel reads
 abbrev pub is_on : ChannelSetup → Edge → Bool
-is_on setup edge = edge.line == line_of setup
+is_on setup edge = reads_line setup edge.line
 
 -- the items of a channel: the edges of its lines, in order
 unfoldable pub items_on : ChannelSetup → List Edge → List Item

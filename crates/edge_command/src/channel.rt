@@ -64,12 +64,12 @@ impl Channel {
         ensures follows { (edges : List Edge) → Follows self.old edges → Follows self.new (edges ++ edge ∷ []) }
         ensures given { (edges : List Edge) → Follows self.old edges → reports.new.items ≡ reports_added self.old.setup edges edge }
     {
-        if edge.line == self.setup.line() {
+        if self.setup.reads(edge.line) {
             self.take_own_edge(edge, reports);
         }
     }
 
-    /// Takes the next edge of the list, which is on the channel's line, and adds the reports that it gives to
+    /// Takes the next edge of the list, which is on a line of the channel, and adds the reports that it gives to
     /// none.
     #[inline(never)]
     fn take_own_edge(&mut self, edge: Edge, reports: &mut ArrayVec<Report, 8>)

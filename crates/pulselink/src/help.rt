@@ -10,8 +10,8 @@ usage: pulselink decode SPEC.. < FILE
        pulselink --version | -V
 
 The input comes from standard input: < FILE, or a pipe.
-decode writes a line for each frame, value, serial message and violated rule,
-and then a total line for each channel; check writes the total lines alone.
+decode writes a line for each frame, answer, burst, value, message and violated
+rule, and then a total line for each channel; check writes the total lines alone.
 
 SPEC names a channel: a kind, a colon, and pairs KEY=VALUE with commas between.
 There are 1 to 16 SPECs; the first is channel 00. Channels may share a line.
@@ -26,6 +26,37 @@ There are 1 to 16 SPECs; the first is channel 00. Channels may share a line.
     layout    raw, one12 (3 nibbles), two12, secure12  raw
               and split16_8 (6 nibbles)
     serial    none, short, enhanced                    none
+  spc:line=N    an SPC channel, a trigger and its answer; times in tenths of a tick:
+    line, tick, jitter, nibbles and crc are as for sent
+    cover     data, status: the CRC covers the data    data
+              nibbles alone, or the status too
+    windows   1 to 8 spans LOW-HIGH with / between,    100-160/210-290/
+              10 to 2000: the widths of the triggers   350-450/520-660
+    delay     a span LOW-HIGH, from 10, below quiet:   40-400
+              from the trigger to its answer
+    quiet     700 to 10000: high before a trigger      800
+  psi5:line=N   a PSI5 channel, one sensor or a bus (PSI5 V2.1):
+    line      0 to 15                                  must be there
+    rate      125, 189: kbit/s                         125
+    jitter    1 to 500, in ns, at most bit/16          bit/16
+    m         0, 2: bits of messaging                  0
+    f         0 to 4: bits of frame control            0
+    s         0 to 2: bits of status                   0
+    b         0 to 12: bits of data B                  0
+    a         10 to 24: bits of data A; at most 28 in  10
+              all five parts
+    check     parity, crc: one bit, or the CRC-3       parity
+    sync      0 to 15: the line of the sync pulses;    no slots
+              with slots
+    slots     1 to 8 spans LOW-HIGH with / between,    no slots
+              in ns from a sync pulse to a burst
+    init      1 to 16: how often each block is         not read
+              sent at the start; with a=10
+  tooth:line=N  the tooth-gap downlink, in the gaps of PSI5 sync pulses:
+    line      0 to 15                                  must be there
+    period    10000 to 10000000, in ns                 500000
+    jitter    1 to 625000, in ns, at most period/16    period/16
+    form      short, long, xlong                       short
 
 FILE is an edge list, with at most 512 bytes a line:
   narrow   TIME,LINE,LEVEL          a time in ns, a line 0 to 15, a level 0 or 1
@@ -36,8 +67,10 @@ FILE is an edge list, with at most 512 bytes a line:
 Lines end by LF or CRLF. Empty lines and lines that begin with # are skipped.
 
 statuses
-  0   all was read and written, no rule was violated and no counter jumped
-  1   all was read and written, and a rule was violated or a counter jumped
+  0   all was read and written, no rule was violated, no counter jumped and each
+      SPC trigger was answered
+  1   all was read and written, and a rule was violated, a counter jumped or an
+      SPC trigger wasn't answered
   2   the words are faulty               word K: FAULT
   3   a line of the input is faulty      input line N: FAULT
   4   reading failed                     read fault
@@ -70,6 +103,6 @@ docs/GLOSSARY.md says what to do about each, and about each violated rule.
 
 examples, in the folder of the repository
   pulselink decode sent:line=0 < examples/three_frames.txt
-  pulselink decode sent:line=0,serial=short < examples/short_message.txt
+  pulselink decode psi5:line=1 < examples/psi5_bursts.txt
   pulselink check sent:line=0,layout=two12 < examples/saleae.csv
 ";

@@ -1,5 +1,5 @@
 -- A wide row is read, and its edges are taken.
-use Rattle.std.proofs.Common.{◌≡◌, ◌∷◌, [], ◌++◌, Ok, take, refl, sym, ap, ◌∙◌}
+use Rattle.std.proofs.Common.{◌++◌, take, refl, sym, ap, ◌∙◌}
 use Rattle.std.proofs.lemmas.Bool.{eqb-true, eqb-false}
 use Rattle.edge_trace.specs.Limits.{answers_of, edges_of}
 use Rattle.edge_command.specs.Runs.{decoding_of}
