@@ -1,358 +1,182 @@
 #!/usr/bin/env python3
-"""Reads random SENT captures a second way, and compares with what the program writes.
+"""Reads random captures a second way, and compares with what the program writes.
 
-    bench/second_reading.py [CAPTURES [SEED]]      1000 captures unless said
+    bench/second_reading.py [--kinds KINDS] [CAPTURES [SEED]]      1000 captures of all kinds unless said
+    bench/second_reading.py --alone [--kinds KINDS] [CAPTURES [SEED]]
+    bench/second_reading.py --self-test
 
-The reading here is slow and plain: it looks at whole lists, tries all sixteen values of a pulse and divides
-polynomials bit by bit, and shares no code with the program. The captures have one to three lines with a
-sensor each, one to sixteen channels on them with all keys, drift and jitter within and beyond the bounds,
-broken pulses, wrong CRCs, serial messages with wrong bits, repeated levels and edges of another line. Both
-commands, decode and check, are run. Ends with status 1 at the first capture that differs.
+KINDS are some of sent, psi5, spc and tooth, parted by commas. The reading, in bench/readings/, is slow and plain:
+it looks at whole lists, tries all sixteen values of a pulse and divides polynomials bit by bit, and shares no code
+with the program. The captures have one to three sensors, each on lines of its own, and one to sixteen channels with
+all keys, drift and jitter within and beyond the bounds, broken pulses and bursts, wrong CRCs, messages and phases
+with wrong bits, repeated levels and edges of other lines. Both commands, decode and check, are run. Ends with
+status 1 at the first capture that differs, says where, and keeps its list.
+
+With --alone the program isn't run: what the captures hold is counted, and the rules that none breaks are named.
+With --self-test the reading is compared with captures whose reports were worked out by hand.
 """
+import argparse
 import pathlib
 import random
 import subprocess
 import sys
-from dataclasses import dataclass
+import tempfile
+
+from readings import psi5, sent, spc, tooth, worked
 
 PROGRAM = pathlib.Path(__file__).parent.parent / ".built" / "pulselink"
+KINDS = {"sent": sent, "psi5": psi5, "spc": spc, "tooth": tooth}
+RULES = {
+    "sent": "NoCalibration Drift NibbleRange Check PauseRange Copy Restart Zero13 Zero18 SerialCheck",
+    "psi5": "FirstFall TooShort Phase StartBit TooLong TooFew EndsHigh Psi5Check NoSync NoSlot SlotTwice InitOrder "
+    "InitRepeat",
+    "spc": "NoCalibration NibbleRange Check TriggerWidth Delay",
+    "tooth": "SyncBit DownCheck StartPattern",
+}
+COUNTED = {
+    "good": ("frame", "answer", "psi5", "down"),
+    "bad": ("bad", "counter", "noanswer"),
+    "messages": ("short", "enhanced4", "enhanced8", "init"),
+}
 
 
-@dataclass
-class Setup:
-    """A SENT channel: times in ns."""
-
-    line: int
-    tick: int
-    jitter: int
-    nibbles: int
-    pause: bool
-    crc: str
-    layout: str
-    serial: str
-
-    def spec(self):
-        pause = "yes" if self.pause else "no"
-        return (
-            f"sent:line={self.line},tick={self.tick},jitter={self.jitter},nibbles={self.nibbles},"
-            f"pause={pause},crc={self.crc},layout={self.layout},serial={self.serial}"
-        )
+def kind_of(setup):
+    return sys.modules[type(setup).__module__]
 
 
-def bits_of(number, width):
-    return [number >> place & 1 for place in reversed(range(width))]
-
-
-def number_of(bits):
-    return int("".join(map(str, bits)), 2)
-
-
-def remainder(bits, divisor):
-    left = list(bits)
-    for start in range(len(left) - len(divisor) + 1):
-        if left[start]:
-            for place, bit in enumerate(divisor):
-                left[start + place] ^= bit
-    return number_of(left[-(len(divisor) - 1) :])
-
-
-def crc4(nibbles, form="new"):
-    bits = [0, 1, 0, 1] + [bit for nibble in nibbles for bit in bits_of(nibble, 4)]
-    return remainder(bits + [0] * 4 if form == "new" else bits, [1, 1, 1, 0, 1])
-
-
-def crc6(bits):
-    return remainder([0, 1, 0, 1, 0, 1] + bits + [0] * 6, [1, 0, 1, 1, 0, 0, 1])
-
-
-# The vectors of docs/SENT.md's messages and of the CRCs.
-assert crc4([1, 2, 3, 4, 5, 6]) == 2 and crc4([1, 2, 3, 4, 5, 6], "legacy") == 0xD
-assert crc6([0] * 24) == 0b100110 and crc6(bits_of(0b000111010101101000100100, 24)) == 0b010011
-
-
-def value_bit(status):
-    return status >> 2 & 1
-
-
-def start_bit(status):
-    return status >> 3 & 1
-
-
-def short_steps(statuses):
-    """The short messages and violated rules, each with its place among the statuses."""
-    steps = []
-    for place, status in enumerate(statuses):
-        before = statuses[max(0, place - 15) : place]
-        if start_bit(status) and any(map(start_bit, before)):
-            steps.append((place, "bad Restart"))
-        message = statuses[place - 15 : place + 1] if place >= 15 else []
-        if message and start_bit(message[0]) and not any(map(start_bit, message[1:])):
-            bits = list(map(value_bit, message))
-            id_, high, low, check = (number_of(bits[i : i + 4]) for i in (0, 4, 8, 12))
-            good = check == crc4([id_, high, low])
-            steps.append((place, f"short {id_:X} {high:X}{low:X}" if good else "bad SerialCheck"))
-    return steps
-
-
-def enhanced_said(message):
-    starts, values = list(map(start_bit, message)), list(map(value_bit, message))
-    checked = [bit for pair in zip(values[6:], starts[6:]) for bit in pair]
-    if number_of(values[:6]) != crc6(checked):
-        return "bad SerialCheck"
-    first, second, low = starts[8:12], starts[13:17], values[6:]
-    if starts[7]:
-        return f"enhanced4 {number_of(first):X} {number_of(second + low):04X}"
-    return f"enhanced8 {number_of(first + second):02X} {number_of(low):03X}"
-
-
-def enhanced_steps(statuses):
-    """The same of enhanced messages."""
-    starts = list(map(start_bit, statuses))
-    steps, begin = [], 0
-    while True:
-        found = [i for i in range(begin, len(starts) - 6) if starts[i : i + 7] == [1] * 6 + [0]]
-        if not found:
-            return steps
-        first = found[0]
-        for frame, rule in ((12, "bad Zero13"), (17, "bad Zero18")):
-            place = first + frame
-            if place >= len(starts):
-                return steps
-            if starts[place]:
-                steps.append((place, rule))
-                begin = place
-                break
-        else:
-            steps.append((first + 17, enhanced_said(statuses[first : first + 18])))
-            begin = first + 18
-
-
-def value_lines(layout, n, counter):
-    """What the nibbles say in the layout, and the counter to watch from there on."""
-    first = f"{n[0]:X}{n[1]:X}{n[2]:X}" if len(n) >= 3 else ""
-    if layout == "one12":
-        return [f"one {first}"], counter
-    if layout == "two12":
-        return [f"two {first} {n[5]:X}{n[4]:X}{n[3]:X}"], counter
-    if layout == "split16_8":
-        return [f"split {first}{n[3]:X} {n[5]:X}{n[4]:X}"], counter
-    if layout == "secure12":
-        if n[5] != 15 - n[0]:
-            return ["bad Copy"], None
-        now = 16 * n[3] + n[4]
-        lines = [f"secure {first} {now:02X}"]
-        if counter is not None and now != (counter + 1) % 256:
-            lines.append(f"counter {counter:02X} {now:02X}")
-        return lines, now
-    return [], counter
-
-
-def frame_reports(setup, pulses):
-    """The frames and violated rules of pulses, a length and a place each, as (place, rule or values)."""
-    calibrates = lambda m: (
-        5 * m + 10 * setup.jitter >= 224 * setup.tick and 5 * m <= 336 * setup.tick + 10 * setup.jitter
-    )
-    i, due, last = 0, "nothing", 0
-    while i < len(pulses):
-        length, place = pulses[i]
-        if due == "pause":
-            if 23 * last <= 112 * length <= 1548 * last:
-                i, due = i + 1, "calibration"
-            else:
-                yield place, "PauseRange"
-                i, due = i + 1, "nothing"
-            continue
-        if due == "calibration" and not calibrates(length):
-            yield place, "NoCalibration"
-            i, due = i + 1, "nothing"
-            continue
-        if due == "calibration" and 64 * abs(length - last) > last:
-            yield place, "Drift"
-            due = "nothing"
-            continue
-        if due == "nothing":
-            if not calibrates(length) or (i + 1 < len(pulses) and calibrates(pulses[i + 1][0])):
-                i += 1
-                continue
-            if i + 1 == len(pulses):
-                return
-        values, j = [], i + 1
-        while len(values) < setup.nibbles + 2 and j < len(pulses):
-            fits = [
-                v
-                for v in range(16)
-                if (2 * (12 + v) - 1) * length <= 112 * pulses[j][0] < (2 * (12 + v) + 1) * length
-            ]
-            if not fits:
-                break
-            values.append(fits[0])
-            j += 1
-        if len(values) < setup.nibbles + 2:
-            if j == len(pulses):
-                return
-            yield pulses[j][1], "NibbleRange"
-            i, due = j, "nothing"
-            continue
-        good = crc4(values[1:-1], setup.crc) == values[-1]
-        yield pulses[j - 1][1], values if good else "Check"
-        i, last, due = j, length, "pause" if setup.pause else "calibration"
-
-
-def read(setup, edges):
-    """What the edges of the channel's line, each a time and a level, say at which place, and the counts."""
-    falls = [(time, place) for place, (time, level) in enumerate(edges) if place and not level]
-    pulses = [(b[0] - a[0], b[1]) for a, b in zip(falls, falls[1:])]
-    steps_of = {"none": lambda _: [], "short": short_steps, "enhanced": enhanced_steps}[setup.serial]
-    lines, counter, statuses = [], None, []  # a place and a text each
-    for place, report in frame_reports(setup, pulses):
-        if isinstance(report, str):
-            said, counter, statuses = [f"bad {report}"], None, []
-        else:
-            status, nibbles = report[0], report[1:-1]
-            values, counter = value_lines(setup.layout, nibbles, counter)
-            before = len(steps_of(statuses))
-            statuses = statuses + [status]
-            serial = [step for _, step in steps_of(statuses)[before:]]
-            digits = "".join(f"{nibble:X}" for nibble in nibbles)
-            said = [f"frame {status:X} {digits}"] + values + serial
-        lines += [(place, text) for text in said]
-    words = [text.split()[0] for _, text in lines]
-    bad = words.count("bad") + words.count("counter")
-    messages = sum(word in ("short", "enhanced4", "enhanced8") for word in words)
-    return lines, (words.count("frame"), bad, messages)
+def edges_of(rows):
+    """The edges of a list: the number of the row, its line, a time and a level each."""
+    edges, levels = [], {}
+    for row, (time, line, level) in enumerate(rows):
+        if levels.get(line) != level:
+            edges.append((row, line, time, level))
+        levels[line] = level
+    return edges
 
 
 def read_all(setups, rows):
     """The report lines of all channels in the order of the list's edges, the total lines, and the status."""
     reports, totals, status = [], [], 0
     for channel, setup in enumerate(setups):
-        edges = edges_of(rows, setup.line)
-        lines, (good, bad, messages) = read(setup, [(time, level) for _, time, level in edges])
-        # A report comes at the edge of its place: by the row of that edge, then by channel.
-        reports += [(edges[place][0], channel, f"{channel:02} {place} {text}") for place, text in lines]
+        own = [edge for edge in edges_of(rows) if edge[1] in setup.lines()]
+        said = kind_of(setup).read(setup, [edge[1:] for edge in own])
+        # A report comes at the edge that completes it: by the row of that edge, then by channel. The end is last.
+        row_of = [row for row, *_ in own] + [len(rows)]
+        reports += [(row_of[told], channel, f"{channel:02} {place} {text}") for told, place, text in said]
+        first = [text.split()[0] for _, _, text in said]
+        good, bad, messages = (sum(word in names for word in first) for names in COUNTED.values())
         totals.append(f"{channel:02} total good {good} bad {bad} messages {messages} gaps 0 lost 0")
         status = 1 if bad else status
     return [text for _, _, text in sorted(reports, key=lambda report: report[:2])], totals, status
 
 
-def message(rng, serial):
-    """The statuses of a serial message, without its bits 0 and 1."""
-    if serial == "short":
-        id_, value = rng.randrange(16), rng.randrange(256)
-        bits = bits_of(id_, 4) + bits_of(value, 8)
-        bits += bits_of(crc4([id_, value >> 4, value & 15]), 4)
-        return [8 * (place == 0) + 4 * bit for place, bit in enumerate(bits)]
-    starts = [1] * 6 + [0] + [rng.randrange(2) for _ in range(11)]
-    starts[12] = starts[17] = 0
-    values = [rng.randrange(2) for _ in range(12)]
-    check = crc6([bit for pair in zip(values, starts[6:]) for bit in pair])
-    return [8 * s + 4 * v for s, v in zip(starts, bits_of(check, 6) + values)]
+def random_setup(rng, kinds):
+    kind = rng.choice(kinds) if len(kinds) > 1 else kinds[0]
+    return KINDS[kind].random_setup(rng)
 
 
-def random_setup(rng):
-    layout = rng.choice(["raw", "raw", "one12", "two12", "secure12", "split16_8"])
-    tick = rng.choice([3000, 3000, 3019, 12000, 90000])
-    return Setup(
-        line=rng.randrange(16),
-        tick=tick,
-        jitter=rng.randint(1, tick // 10),
-        nibbles={"raw": rng.randint(1, 6), "one12": 3}.get(layout, 6),
-        pause=rng.random() < 0.4,
-        crc=rng.choice(["new", "new", "legacy"]),
-        layout=layout,
-        serial=rng.choice(["none", "short", "enhanced", "enhanced"]),
-    )
+def another(rng, sensors, kinds):
+    """One more channel: as one of the sensors, or another one, which may be on their lines."""
+    known, other = rng.choice(sensors), random_setup(rng, kinds)
+    used = [line for sensor in sensors for line in sensor.lines()]
+    if kind_of(other) is not sent and len(used) >= len(other.lines()):
+        other.use(rng.sample(used, len(other.lines())))
+    return rng.choice([known, other])
 
 
-def random_falls(rng, setup):
-    """The falls of a train of frames, in ns, most of it within the bounds."""
-    tick = rng.uniform(0.8, 1.2) * setup.tick
-    falls, statuses, counter = [rng.uniform(0, 300_000)], [], rng.randrange(256)
-    for _ in range(rng.randint(1, 70)):
-        if setup.serial != "none" and not statuses and rng.random() < 0.8:
-            statuses = message(rng, setup.serial)
-            if rng.random() < 0.2:
-                place = rng.choice([12, len(statuses) - 1, rng.randrange(len(statuses))])
-                statuses[place] ^= rng.choice([4, 8])
-        status = statuses.pop(0) + rng.randrange(4) if statuses else rng.randrange(rng.choice([4, 16]))
-        nibbles = [rng.randrange(16) for _ in range(setup.nibbles)]
-        if setup.layout == "secure12":
-            nibbles[3:] = [counter >> 4, counter & 15, 15 - nibbles[0]]
-            counter = (counter + 1) % 256 if rng.random() < 0.9 else rng.randrange(256)
-            if rng.random() < 0.05:
-                nibbles[5] = rng.randrange(16)
-        check = crc4(nibbles, setup.crc) if rng.random() < 0.97 else rng.randrange(16)
-        tick *= 1 + rng.uniform(-1, 1) / (220 if rng.random() < 0.95 else 40)
-        tick = min(max(tick, 0.8 * setup.tick), 1.2 * setup.tick)
-        ticks = [56] + [12 + value for value in [status] + nibbles + [check]]
-        if setup.pause:
-            ticks.append(rng.choice([12, 56, 770, 775, 800] + 45 * [rng.randint(12, 768)]))
-        for count in ticks:
-            length = count * tick * (rng.choice([0.3, 0.7, 1.5, 2.2]) if rng.random() < 0.004 else 1)
-            falls.append(falls[-1] + length)
-    return falls
-
-
-def random_rows(rng, setup, falls):
-    """Rows of the recorded falls, with rises, repeated levels and another line between them."""
-    recorded = [int(fall + rng.uniform(-setup.jitter, setup.jitter)) for fall in falls]
-    recorded = [max([0] + recorded[: i + 1]) for i in range(len(recorded))]
-    other = (setup.line + 1) % 16
-    rows = [(0, setup.line, 1)] if rng.random() < 0.9 else []
-    for fall, after in zip(recorded, recorded[1:] + [recorded[-1] + 100_000]):
-        rise = min(after, fall + rng.randrange(4 * setup.tick))
-        rows += [(fall, setup.line, 0), (rise, setup.line, 1)]
-        if rng.random() < 0.1:
-            rows.append((rise, other, rng.randrange(2)))
-        if rng.random() < 0.02:
-            rows.append((rise, setup.line, 1))
+def part_of(rng, rows):
+    """The rows of a capture that begins or ends within a train, or that has a late time, now and then."""
+    if rng.random() < 0.15:
+        rows = rows[rng.randrange(len(rows) + 1) :]
+    if rng.random() < 0.3:
+        rows = rows[: rng.randrange(len(rows) + 1)]
+    if rows and rng.random() < 0.05:
+        late = 10**15 - rows[-1][0]
+        rows = [(time + late, line, level) for time, line, level in rows]
     return rows
 
 
-def edges_of(rows, line):
-    """The edges of a line: the number of its row, a time and a level each."""
-    edges = []
-    for row, (time, row_line, level) in enumerate(rows):
-        if row_line == line and (not edges or edges[-1][2] != level):
-            edges.append((row, time, level))
-    return edges
-
-
-def random_capture(rng):
-    """Channels, and the rows of a list with a sensor on each of one to three lines."""
-    sensors = [random_setup(rng) for _ in range(rng.choice([1, 1, 1, 2, 3]))]
-    for sensor, line in zip(sensors, rng.sample(range(16), len(sensors))):
-        sensor.line = line
+def random_capture(rng, kinds):
+    """Channels, and the rows of a list with one to three sensors, each on lines of its own."""
+    sensors = [random_setup(rng, kinds) for _ in range(rng.choice([1, 1, 1, 2, 3]))]
+    lines = rng.sample(range(16), sum(len(sensor.lines()) for sensor in sensors))
+    for sensor in sensors:
+        sensor.use([lines.pop(0) for _ in sensor.lines()])
     rows = sorted(
-        (row for sensor in sensors for row in random_rows(rng, sensor, random_falls(rng, sensor))),
+        (row for sensor in sensors for row in kind_of(sensor).random_rows(rng, sensor)),
         key=lambda row: row[0],
     )
+    if any(kind_of(sensor) is not sent for sensor in sensors):
+        rows = part_of(rng, rows)
     setups = list(sensors)
     if rng.random() < 0.3:
-        setups += [rng.choice([rng.choice(sensors), random_setup(rng)]) for _ in range(rng.choice([1, 2, 13]))]
+        setups += [another(rng, sensors, kinds) for _ in range(rng.choice([1, 2, 13]))]
     rng.shuffle(setups)
     return setups, rows
 
 
+def compare(command, specs, text, lines, status):
+    """Where the program differs, a text."""
+    run = subprocess.run([PROGRAM, command, *specs], input=text.encode(), capture_output=True, check=False)
+    written = run.stdout.decode().splitlines()
+    for number, (one, other) in enumerate(zip(written + [None], lines + [None])):
+        if one != other:
+            return f"line {number + 1} is {one!r}, and {other!r} is read here {run.stderr.decode()}"
+    return f"status {run.returncode}, and {status} is right" if run.returncode != status else None
+
+
+def name_of(line):
+    said = line.split()[2:4]
+    return " ".join(said) if said[0] == "bad" else said[0]
+
+
+def counts(names):
+    return ", ".join(f"{names.count(name)} {name}" for name in sorted(set(names)))
+
+
+def kept(text):
+    """The path of a file with the text."""
+    with tempfile.NamedTemporaryFile("wb", suffix=".txt", delete=False) as file:
+        file.write(text.encode())
+    return file.name
+
+
 def main():
-    captures = int(sys.argv[1]) if len(sys.argv) > 1 else 1000
-    rng = random.Random(int(sys.argv[2]) if len(sys.argv) > 2 else 1)
-    told = {}
-    for capture in range(captures):
-        setups, rows = random_capture(rng)
+    options = argparse.ArgumentParser(description=__doc__, formatter_class=argparse.RawDescriptionHelpFormatter)
+    options.add_argument("captures", nargs="?", type=int, default=1000)
+    options.add_argument("seed", nargs="?", type=int, default=1)
+    options.add_argument("--kinds", default=",".join(KINDS), help="kinds of channels, parted by commas")
+    options.add_argument("--alone", action="store_true", help="don't run the program")
+    options.add_argument("--self-test", action="store_true", help="read the captures of readings/worked.py")
+    given = options.parse_args()
+    kinds = given.kinds.split(",")
+    if not set(kinds) <= set(KINDS):
+        options.error(f"the kinds are {', '.join(KINDS)}")
+    if given.self_test:
+        wrong = worked.wrong_rows(read_all)
+        print("\n".join(wrong) or f"{len(worked.ROWS)} captures are read as worked out")
+        sys.exit(bool(wrong))
+    rng = random.Random(given.seed)
+    told = {kind: [] for kind in kinds}
+    for capture in range(given.captures):
+        setups, rows = random_capture(rng, kinds)
         text = rng.choice(["\n", "\r\n"]).join(f"{t},{line},{level}" for t, line, level in rows) + "\n"
         reports, totals, status = read_all(setups, rows)
-        for line in reports:
-            said = line.split()[2:4]
-            name = " ".join(said) if said[0] == "bad" else said[0]
-            told[name] = told.get(name, 0) + 1
         specs = [setup.spec() for setup in setups]
+        for line in reports:
+            told[specs[int(line[:2])].split(":")[0]].append(name_of(line))
         for command, lines in (("decode", reports + totals), ("check", totals)):
-            run = subprocess.run([PROGRAM, command, *specs], input=text.encode(), capture_output=True, check=False)
-            if run.stdout.decode().splitlines() != lines or run.returncode != status:
-                print(f"capture {capture} differs: {command} {' '.join(specs)}", file=sys.stderr)
+            differs = None if given.alone else compare(command, specs, text, lines, status)
+            if differs:
+                print(f"capture {capture} differs: {command} {' '.join(specs)}\n{differs}", file=sys.stderr)
+                print(f"its list is {kept(text)}", file=sys.stderr)
                 sys.exit(1)
-    print(f"{captures} captures read alike:", ", ".join(f"{n} {name}" for name, n in sorted(told.items())))
+    if not given.alone:
+        print(f"{given.captures} captures read alike:", counts(sum(told.values(), [])))
+        return
+    for kind, names in told.items():
+        unseen = [rule for rule in RULES[kind].split() if f"bad {rule}" not in names]
+        print(f"{kind}: {counts(names)}; rules that nothing breaks: {', '.join(unseen) or 'none'}")
 
 
 main()
