@@ -2,6 +2,7 @@
 
 mod broken;
 mod channels;
+mod links;
 mod lists;
 mod messages;
 mod refused;

@@ -24,13 +24,13 @@ fn where_a_word_is_refused_nothing_is_pulled_or_put(rt: HostRuntime) -> Result<(
         ("capture sent:line=0", 1, NotBuilt),
         ("check", 2, Missing),
         ("decode sent", 2, Kind),
-        ("decode psi5:line=1", 2, NotBuilt),
+        ("decode psi5:line=16", 2, Value),
         ("decode sent:line=0,line=1", 2, Key),
         ("decode sent:line=16", 2, Value),
         ("decode sent:tick=3000", 2, Absent),
         ("decode sent:line=0,jitter=301", 2, Setup),
         ("decode sent:nibbles=3,line=0,layout=two12", 2, Setup),
-        ("decode sent:line=0 psi5:line=1", 3, NotBuilt),
+        ("decode sent:line=0 psi5:line=1,sync=2", 3, Setup),
         ("check sent:line=0 sent:line=16", 3, Value),
     ] {
         let trial = Trial {

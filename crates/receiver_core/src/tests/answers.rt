@@ -48,7 +48,7 @@ fn items(alloc: Global, rise: u32, falls: &[u32]) -> Result<Vec<Item>, AllocErro
     Ok(items)
 }
 
-/// Row 16 of the specification.
+/// A width in no window, a trigger that nobody answers, and an answer.
 #[test]
 fn a_trigger_is_answered_or_not_or_in_no_window(rt: HostRuntime) -> Result<(), Fail> {
     let nibbles = Nibbles::new(&[0; 6]).expect(&rt, "six nibbles");

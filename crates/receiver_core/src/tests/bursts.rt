@@ -48,7 +48,7 @@ const ZEROS: [u8; 28] = [
     29, 30,
 ];
 
-/// The slots of row 21 of the specification.
+/// Two slots, which begin 44,000 and 200,000 ns after a sync.
 const TWO: [Span; 2] = [
     Span {
         low: 44_000,
@@ -60,7 +60,7 @@ const TWO: [Span; 2] = [
     },
 ];
 
-/// The slot of row slots-and-init/1.
+/// One slot, of 44,000 to 400,000 ns after a sync.
 const ONE: [Span; 1] = [Span {
     low: 44_000,
     high: 400_000,
@@ -171,6 +171,17 @@ fn add_burst(items: &mut Vec<Item>, start: u32, places: &[u8]) -> Result<u64, Al
     Ok((items.len() as u64).saturating_sub(1))
 }
 
+/// Adds the edges behind the first one of such a frame.
+fn add_rest(items: &mut Vec<Item>, start: u32, places: &[u8]) -> Result<(), AllocError> {
+    let mut level = false;
+    for place in places.iter().skip(1) {
+        let time = start.saturating_add(4_000 * u32::from(*place));
+        add_edge(items, 1, time, level)?;
+        level = !level;
+    }
+    Ok(())
+}
+
 /// Adds a sync of 16,000 ns at this time in ns.
 fn add_sync(items: &mut Vec<Item>, time: u32) -> Result<(), AllocError> {
     add_edge(items, 2, time, true)?;
@@ -199,7 +210,7 @@ fn add_reports(
     Ok(())
 }
 
-/// Row 12 of the specification: a burst that ends with edge 20.
+/// The burst ends with edge 20.
 #[test]
 fn a_burst_is_told_with_the_next_one_or_at_the_end(rt: HostRuntime) -> Result<(), Fail> {
     let expected = [Report {
@@ -229,7 +240,34 @@ fn a_burst_is_told_with_the_next_one_or_at_the_end(rt: HostRuntime) -> Result<()
     Ok(())
 }
 
-/// Rows 13 and 14 of the specification.
+#[test]
+fn a_gap_at_any_place_of_a_burst_drops_it(rt: HostRuntime) -> Result<(), Fail> {
+    for place in 0..22u64 {
+        let mut list = Vec::new(rt.alloc());
+        add_edge(&mut list, 1, 0, false)?;
+        add_burst(&mut list, 20_000, &READY)?;
+        list.truncate(place as usize);
+        list.push(Item::Gap {
+            first: place,
+            count: 1,
+        })?;
+        add_edge(&mut list, 1, 500_000, false)?;
+        add_burst(&mut list, 520_000, &READY)?;
+        list.push(Item::End)?;
+        let found = reports(rt.alloc(), whole(&rt), &list)?;
+        let expected = [
+            gap(place, 1),
+            Report {
+                place: place + 21,
+                what: ready(None),
+            },
+        ];
+        assert_eq!(rt; found.as_slice(), expected.as_slice(), "{place}");
+    }
+    Ok(())
+}
+
+/// Ten zeros with their CRC, the same without the last edge, and a burst of three edges.
 #[test]
 fn a_burst_is_told_with_its_first_violated_rule(rt: HostRuntime) -> Result<(), Fail> {
     let zeros = burst(None, 0, Code::Signal(0));
@@ -256,7 +294,7 @@ fn a_burst_is_told_with_its_first_violated_rule(rt: HostRuntime) -> Result<(), F
     Ok(())
 }
 
-/// Row 21 of the specification: the first edge is 50,000, 70,000 and 300,000 ns after the sync.
+/// The first edge is 50,000, 70,000 and 300,000 ns after the sync.
 #[test]
 fn a_burst_outside_its_slot_is_told_at_its_first_edge(rt: HostRuntime) -> Result<(), Fail> {
     for (start, place, what) in [
@@ -276,7 +314,7 @@ fn a_burst_outside_its_slot_is_told_at_its_first_edge(rt: HostRuntime) -> Result
     Ok(())
 }
 
-/// Row slots-and-init/1 of the specification.
+/// Two bursts in one slot after one sync.
 #[test]
 fn a_slot_is_answered_once_after_a_sync(rt: HostRuntime) -> Result<(), Fail> {
     let mut list = opened(rt.alloc())?;
@@ -294,6 +332,60 @@ fn a_slot_is_answered_once_after_a_sync(rt: HostRuntime) -> Result<(), Fail> {
         Report {
             place: 24,
             what: What::Bad(Rule::SlotTwice),
+        },
+    ];
+    assert_eq!(rt; found.as_slice(), expected.as_slice());
+    Ok(())
+}
+
+/// A burst whose first edge, 50,000 ns after a sync, comes at the time of the next sync.
+#[test]
+fn edges_at_one_time_are_taken_in_their_order(rt: HostRuntime) -> Result<(), Fail> {
+    for (is_first, place, what) in [
+        (true, 24, ready(Some(0))),
+        (false, 5, What::Bad(Rule::NoSlot)),
+    ] {
+        let mut list = opened(rt.alloc())?;
+        add_sync(&mut list, 100_000)?;
+        if is_first {
+            add_edge(&mut list, 1, 150_000, true)?;
+        }
+        add_edge(&mut list, 2, 150_000, true)?;
+        if !is_first {
+            add_edge(&mut list, 1, 150_000, true)?;
+        }
+        add_rest(&mut list, 146_000, &READY)?;
+        list.push(Item::End)?;
+        let setup = sound(&rt, channel(&rt, 1, 2, &ONE, None));
+        let found = reports(rt.alloc(), setup, &list)?;
+        let expected = [Report { place, what }];
+        assert_eq!(rt; found.as_slice(), expected.as_slice(), "{is_first}");
+    }
+    Ok(())
+}
+
+/// The burst stands by the sync before its first edge, and the next one by the sync within it.
+#[test]
+fn a_sync_inside_a_burst_counts_for_the_next_one(rt: HostRuntime) -> Result<(), Fail> {
+    let mut list = opened(rt.alloc())?;
+    add_sync(&mut list, 100_000)?;
+    // Edges 4, and 7 to 25; the sync within are the edges 5 and 6.
+    add_edge(&mut list, 1, 150_000, true)?;
+    add_edge(&mut list, 2, 151_000, true)?;
+    add_edge(&mut list, 2, 153_000, false)?;
+    add_rest(&mut list, 146_000, &READY)?;
+    add_burst(&mut list, 286_000, &READY)?;
+    list.push(Item::End)?;
+    let setup = sound(&rt, channel(&rt, 1, 2, &ONE, None));
+    let found = reports(rt.alloc(), setup, &list)?;
+    let expected = [
+        Report {
+            place: 25,
+            what: ready(Some(0)),
+        },
+        Report {
+            place: 45,
+            what: ready(Some(0)),
         },
     ];
     assert_eq!(rt; found.as_slice(), expected.as_slice());
@@ -330,7 +422,7 @@ fn a_burst_is_told_from_the_first_sync_on_and_a_gap_drops_it(rt: HostRuntime) ->
     Ok(())
 }
 
-/// The codes of row 26 of the specification.
+/// Two blocks, each sent two times, and their end.
 #[test]
 fn blocks_and_their_end_are_told_after_their_bursts(rt: HostRuntime) -> Result<(), Fail> {
     let rows: [Row; 9] = [

@@ -56,7 +56,7 @@ fn told(place: u64) -> Report {
     }
 }
 
-/// Row 17 of the specification.
+/// A whole frame, and the same without one of its pulses.
 #[test]
 fn a_frame_is_told_at_its_last_rise_and_a_missing_pulse_at_the_next(
     rt: HostRuntime,
