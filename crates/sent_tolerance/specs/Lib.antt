@@ -1,0 +1,3 @@
+pub mod Trains
+pub mod Traces
+pub mod FromFirst
