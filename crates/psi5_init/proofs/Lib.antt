@@ -4,3 +4,4 @@ pub mod Standing
 pub mod Stays
 pub mod Telling
 pub mod Rules
+pub mod LookingBack

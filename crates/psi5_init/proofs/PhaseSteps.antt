@@ -12,8 +12,8 @@ use Rattle.psi5_init.specs.declared.code.Code.TheVariants as code
 use Rattle.psi5_init.specs.declared.step.InitStep.{InitStep}
 use Rattle.psi5_init.specs.declared.step.InitStep.TheVariants as step
 use Rattle.psi5_init.specs.Phases.{id_at, block_codes, codes_from}
-use Rattle.psi5_init.specs.Readings.{BlockRead, Standing, Led, led_by, steps_from, begun, after_fresh, next_id}
-use Rattle.psi5_init.specs.Readings.Standing.{Fresh, Idle, AwaitsValue, AwaitsId}
+use Rattle.psi5_init.specs.Standings.{BlockRead, Standing, Led, led_by, steps_from, begun, after_fresh, next_id}
+use Rattle.psi5_init.specs.Standings.Standing.{Fresh, Idle, AwaitsValue, AwaitsId}
 
 -- ---- what a phase comes to, block by block
 -- what so many pairs come to: this at the last code, and nothing before

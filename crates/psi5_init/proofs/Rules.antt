@@ -8,8 +8,10 @@ use Rattle.line_base.specs.declared.rule.Rule.TheVariants.{InitOrder, InitRepeat
 use Rattle.psi5_init.specs.declared.code.Code.{Code}
 use Rattle.psi5_init.specs.declared.code.Code.TheVariants as code
 use Rattle.psi5_init.specs.declared.step.InitStep.{InitStep}
-use Rattle.psi5_init.specs.Readings.{BlockRead, Led, Standing, quietly, begun, again, after_idle, with_pair, after_id, may_end, next_id, after_value, led_by, steps_from, init_reading}
-use Rattle.psi5_init.specs.Readings.Standing.{Fresh, Idle, AwaitsValue, AwaitsId}
+use Rattle.psi5_init.specs.Standings.{BlockRead, Led, Standing, quietly, begun, again, after_idle, with_pair, after_id, may_end, next_id, after_value, led_by, steps_from}
+use Rattle.psi5_init.specs.Readings.{init_reading}
+use Rattle.psi5_init.proofs.LookingBack.{reading-stands}
+use Rattle.psi5_init.specs.Standings.Standing.{Fresh, Idle, AwaitsValue, AwaitsId}
 use Rattle.psi5_init.specs.Meanings.{IsInitStep}
 
 -- one of two
@@ -64,7 +66,7 @@ from-break repeats standing (c ∷ codes) =
     All-cons IsInitStep (led_by repeats standing c).step (steps_from repeats (led_by repeats standing c).next codes) (led-breaks repeats standing c) (from-break repeats (led_by repeats standing c).next codes)
 
 pub steps-break : (repeats : ℕ) (codes : List Code) → All IsInitStep (init_reading repeats codes)
-steps-break repeats codes = from-break repeats Fresh codes
+steps-break repeats codes = rw (reading-stands repeats codes) (from-break repeats Fresh codes)
 
 pub last-breaks : (repeats : ℕ) (codes : List Code) (steps : List InitStep) (says : InitStep) → init_reading repeats codes ≡ steps ++ says ∷ [] → IsInitStep says
 last-breaks repeats codes steps says is = (All-pop IsInitStep (init_reading repeats codes) steps (Some says) is (steps-break repeats codes)).1

@@ -1,7 +1,7 @@
 -- What a reader stands for.
 --     stands-fresh, forgotten      a reader that has seen no code, or has forgotten all
 --     pushed-stands, pushed-grows      one code more
-use Rattle.std.proofs.Common.{◌≡◌, ℕ, ◌+◌, ◌≤◌, List, [], ◌∷◌, ◌++◌, refl, sym, subst, arith}
+use Rattle.std.proofs.Common.{◌≡◌, ℕ, ◌+◌, ◌≤◌, List, [], ◌∷◌, ◌++◌, refl, sym, ap, ◌∙◌, subst, arith}
 use Rattle.std.proofs.lemmas.List.{length-append}
 use Rattle.line_base.proofs.Readers.{grows, goes_on}
 use Rattle.psi5_init.specs.declared.code.Code.{Code}
@@ -9,14 +9,16 @@ use Rattle.psi5_init.specs.declared.step.InitStep.{InitStep}
 use Rattle.psi5_init.specs.declared.reader.State.{State}
 use Rattle.psi5_init.specs.declared.reader.State.TheVariants.{Fresh}
 use Rattle.psi5_init.specs.declared.reader.InitReader.{InitReader}
-use Rattle.psi5_init.specs.Readings.{Led, led_by, steps_from, init_reading}
+use Rattle.psi5_init.specs.Readings.{init_reading}
+use Rattle.psi5_init.specs.Standings.{Led, led_by, steps_from}
+use Rattle.psi5_init.proofs.LookingBack.{reading-none, reading-stands}
 use Rattle.psi5_init.specs.Kept.{blocks_in, standing_of}
 use Rattle.psi5_init.specs.Readers.{StandsFor}
 use Rattle.psi5_init.proofs.PhaseSteps.{stepped, no_steps}
 
 pub stands-fresh : (k : ℕ) → StandsFor k (k, Fresh) []
 unfolding steps_from
-stands-fresh k = record { same_repeats = refl; goes_on = record { each = λ more. refl }; bounded = omega arith }
+stands-fresh k = record { same_repeats = refl; goes_on = record { each = λ more. reading-stands k more ∙ ap (λ steps. steps ++ steps_from k (standing_of Fresh) more) (sym (reading-none k)) }; bounded = omega arith }
 
 -- this is where the code leads from the state, and what it ends
 abbrev pub LeadsTo : ℕ → State → State → InitStep → Code → Type 0

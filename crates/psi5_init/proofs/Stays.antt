@@ -5,8 +5,10 @@ use Rattle.std.proofs.Common.{◌≡◌, ℕ, suc, List, [], ◌∷◌, ◌++◌
 use Rattle.line_base.specs.Streams.{IsFrontOf}
 use Rattle.line_base.proofs.Fronts.{IsFrontOf-nil, IsFrontOf-after}
 use Rattle.psi5_init.specs.declared.code.Code.{Code}
-use Rattle.psi5_init.specs.Readings.{Standing, led_by, steps_from, init_reading}
-use Rattle.psi5_init.specs.Readings.Standing.{Fresh}
+use Rattle.psi5_init.specs.Readings.{init_reading}
+use Rattle.psi5_init.specs.Standings.{Standing, led_by, steps_from}
+use Rattle.psi5_init.specs.Standings.Standing.{Fresh}
+use Rattle.psi5_init.proofs.LookingBack.{reading-stands}
 
 steps_from-length : (k : ℕ) (standing : Standing) (codes : List Code) → length (steps_from k standing codes) ≡ length codes
 unfolding steps_from
@@ -19,7 +21,7 @@ steps_from-front k standing [] more = IsFrontOf-nil (steps_from k standing more)
 steps_from-front k standing (c ∷ codes) more = IsFrontOf-after ((led_by k standing c).step ∷ []) (steps_from-front k (led_by k standing c).next codes more)
 
 pub length-steps : (k : ℕ) (codes : List Code) → length (init_reading k codes) ≡ length codes
-length-steps k codes = steps_from-length k Fresh codes
+length-steps k codes = rw (reading-stands k codes) (steps_from-length k Fresh codes)
 
 pub steps-front : (k : ℕ) (codes more : List Code) → IsFrontOf (init_reading k codes) (init_reading k (codes ++ more))
-steps-front k codes more = steps_from-front k Fresh codes more
+steps-front k codes more = rw (reading-stands k codes, reading-stands k (codes ++ more)) (steps_from-front k Fresh codes more)

@@ -12,6 +12,7 @@ use Rattle.psi5_init.specs.declared.step.InitStep.{InitStep}
 use Rattle.psi5_init.specs.declared.step.InitStep.TheVariants as step
 use Rattle.psi5_init.specs.Phases.{id_at, phase}
 use Rattle.psi5_init.specs.Readings.{init_reading}
+use Rattle.psi5_init.proofs.LookingBack.{reading-stands}
 use Rattle.psi5_init.specs.Meanings.{place_of, index_at, is_last, is_whole, whole_blocks, told_at, told}
 use Rattle.psi5_init.proofs.PhaseSteps.{pair_steps, phase_told, whole_phase}
 
@@ -171,7 +172,8 @@ told-reading k from nibbles some =
     ap (λ a. phase_told k from a 0 0 nibbles) (sym start) ∙ phase_told-places k from [] nibbles some
     ∙ ap (λ a. map (told_at k from nibbles) (range_with_len a (place_of k (length nibbles) + 1))) start in
     let none : 0 + from ≡ from = omega arith in
-    whole_phase k from nibbles some
+    reading-stands k (drop from (phase k nibbles))
+    ∙ whole_phase k from nibbles some
     ∙ ap (drop from) places
     ∙ drop-places (told_at k from nibbles) from 0 (place_of k (length nibbles) + 1)
     ∙ ap (λ a. map (told_at k from nibbles) (range_with_len a (place_of k (length nibbles) + 1 - from))) none

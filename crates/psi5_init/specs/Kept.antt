@@ -3,8 +3,8 @@ use Rattle.std.specs.Prelude.{ℕ, ◌<◌, ◌≤◌}
 use Rattle.psi5_init.specs.declared.reader.OpenBlock.{OpenBlock}
 use Rattle.psi5_init.specs.declared.reader.State.{State}
 use Rattle.psi5_init.specs.declared.reader.State.TheVariants as state
-use Rattle.psi5_init.specs.Readings.{BlockRead, Standing}
-use Rattle.psi5_init.specs.Readings.Standing.{Fresh, Idle, AwaitsValue, AwaitsId}
+use Rattle.psi5_init.specs.Standings.{BlockRead, Standing}
+use Rattle.psi5_init.specs.Standings.Standing.{Fresh, Idle, AwaitsValue, AwaitsId}
 
 -- the block that is being read
 abbrev pub block_of : OpenBlock → BlockRead

@@ -1,114 +1,103 @@
--- How the codes of a PSI5 sensor are read as blocks of an initialisation phase; this project's own.
+-- How the codes of a PSI5 sensor are read as blocks of an initialisation phase, each by the codes before it; this project's own. Lists of codes before a place have the newest first.
 use Rattle.std.specs.Prelude.{ℕ, suc, ◌+◌, ◌%◌, Bool, true, false, ◌||◌, nat_eq, nat_lt, if◌then◌else◌, List, [], ◌∷◌}
-use Rattle.line_base.specs.declared.rule.Rule.{Rule}
 use Rattle.line_base.specs.declared.rule.Rule.TheVariants.{InitOrder, InitRepeat}
 use Rattle.psi5_init.specs.declared.code.Code.{Code}
 use Rattle.psi5_init.specs.declared.code.Code.TheVariants as code
 use Rattle.psi5_init.specs.declared.step.InitStep.{InitStep}
 use Rattle.psi5_init.specs.declared.step.InitStep.TheVariants as step
 
--- a block that is being read: its ID, whether it is loose (its beginning wasn't seen), how many whole pairs of ID and value were seen, the value of these pairs, and how many blocks were told since the reading last left Fresh or Idle
-pub record BlockRead : Type 0 where
-  pub id : ℕ
-  pub loose : Bool
-  pub pairs : ℕ
-  pub value : ℕ
-  pub blocks : ℕ
-
--- where a reading stands: no code yet that tells; outside a phase; or in a block, where its value or an ID comes next
-pub data Standing : Type 0 where
-  Fresh : Standing
-  Idle : Standing
-  AwaitsValue : BlockRead → Standing
-  AwaitsId : BlockRead → Standing
-
--- what a code leads to: its step, and where the reading stands then
-pub record Led : Type 0 where
-  pub step : InitStep
-  pub next : Standing
-
--- nothing is told
-abbrev pub quietly : Standing → Led
-quietly next = record { step = step.Nothing; next = next }
-
--- in the block of this ID, none of whose pairs was seen
-abbrev pub begun : ℕ → Bool → ℕ → Standing
-begun id loose blocks = AwaitsValue (record { id = id; loose = loose; pairs = 0; value = 0; blocks = blocks })
-
+-- ---- what the codes before a place say
 -- the ID after this one: 16 is followed by 1
 abbrev pub next_id : ℕ → ℕ
 next_id id = id % 16 + 1
 
--- Fresh: a value is passed over, an ID begins a loose block, all else leads to Idle
-abbrev pub after_fresh : Code → Standing
-after_fresh (code.Value value) = Fresh
-after_fresh (code.Block id) = begun id true 0
-after_fresh (code.Signal n) = Idle
-after_fresh code.Ready = Idle
-after_fresh code.Busy = Idle
-after_fresh code.Defect = Idle
-after_fresh (code.Reserved n) = Idle
+-- these codes are values and nothing else
+unfoldable pub are_values : List Code → Bool
+are_values [] = true
+are_values (code.Value value ∷ codes) = are_values codes
+are_values (other ∷ codes) = false
 
--- the rule is told, and the same code is read as in Fresh
-abbrev pub again : Rule → Code → Led
-again rule c = record { step = step.Bad rule; next = after_fresh c }
+-- how many whole pairs of this ID and a value these codes end in
+unfoldable pub pairs_of : ℕ → List Code → ℕ
+pairs_of id (code.Value value ∷ code.Block other ∷ codes) = if nat_eq other id then suc (pairs_of id codes) else 0
+pairs_of id codes = 0
 
--- Idle: ID 1 begins a phase, another ID or a value may not stand here
-abbrev pub after_idle : Code → Led
-after_idle (code.Block id) = if nat_eq id 1 then quietly (begun 1 false 0) else again InitOrder (code.Block id)
-after_idle (code.Value value) = again InitOrder (code.Value value)
-after_idle (code.Signal n) = quietly Idle
-after_idle code.Ready = quietly Idle
-after_idle code.Busy = quietly Idle
-after_idle code.Defect = quietly Idle
-after_idle (code.Reserved n) = quietly Idle
+-- the beginning of the block of this ID wasn't seen: behind its pairs come values and nothing else
+unfoldable pub is_loose : ℕ → List Code → Bool
+is_loose id (code.Value value ∷ code.Block other ∷ codes) = if nat_eq other id then is_loose id codes else false
+is_loose id codes = are_values codes
 
--- one pair more with this value: the block is told where that makes so many
-abbrev pub with_pair : ℕ → BlockRead → ℕ → Led
-with_pair repeats b value =
-    if nat_eq (suc b.pairs) repeats
-    then record { step = step.Block b.id value; next = AwaitsId (record { id = b.id; loose = b.loose; pairs = suc b.pairs; value = value; blocks = suc b.blocks }) }
-    else quietly (AwaitsId (record { id = b.id; loose = b.loose; pairs = suc b.pairs; value = value; blocks = b.blocks }))
+-- this value may follow the block's ID: it is the first, or that of the pair before
+unfoldable pub is_repeated : ℕ → List Code → ℕ → Bool
+is_repeated id (code.Value before ∷ code.Block other ∷ codes) value = if nat_eq other id then nat_eq value before else true
+is_repeated id codes value = true
 
--- a value comes next: the block's, or any where no pair was seen; another value is a wrong repeat, and all else may not stand here
-abbrev pub after_id : ℕ → BlockRead → Code → Led
-after_id repeats b (code.Value value) = if nat_eq b.pairs 0 || nat_eq value b.value then with_pair repeats b value else again InitRepeat (code.Value value)
-after_id repeats b (code.Block id) = again InitOrder (code.Block id)
-after_id repeats b (code.Signal n) = again InitOrder (code.Signal n)
-after_id repeats b code.Ready = again InitOrder code.Ready
-after_id repeats b code.Busy = again InitOrder code.Busy
-after_id repeats b code.Defect = again InitOrder code.Defect
-after_id repeats b (code.Reserved n) = again InitOrder (code.Reserved n)
+-- how many whole blocks, each sent so many times, these codes end in, behind the last code that is neither an ID nor a value
+unfoldable pub whole_blocks : ℕ → List Code → ℕ
+whole_blocks repeats (code.Value value ∷ code.Block id ∷ codes) =
+    if nat_eq (suc (pairs_of id codes)) repeats then suc (whole_blocks repeats codes) else whole_blocks repeats codes
+whole_blocks repeats (code.Block id ∷ codes) = whole_blocks repeats codes
+whole_blocks repeats codes = 0
 
--- the block may end: all its pairs were seen, or it is loose
-abbrev pub may_end : ℕ → BlockRead → Bool
-may_end repeats b = nat_eq b.pairs repeats || b.loose
+-- ---- the step of a code
+-- behind the ID of a block: its value, with which the block is whole where it has so many pairs; another value than that of the pair before is a wrong repeat, and any other code may not stand here
+abbrev pub behind_id : ℕ → ℕ → List Code → Code → InitStep
+behind_id repeats id before (code.Value value) =
+    if is_repeated id before value then (if nat_eq (suc (pairs_of id before)) repeats then step.Block id value else step.Nothing) else step.Bad InitRepeat
+behind_id repeats id before (code.Block other) = step.Bad InitOrder
+behind_id repeats id before (code.Signal number) = step.Bad InitOrder
+behind_id repeats id before code.Ready = step.Bad InitOrder
+behind_id repeats id before code.Busy = step.Bad InitOrder
+behind_id repeats id before code.Defect = step.Bad InitOrder
+behind_id repeats id before (code.Reserved number) = step.Bad InitOrder
 
--- an ID comes next: the block's while pairs are missing; the next one, or Ready, where the block may end; too few or too many pairs are a wrong repeat, and all else may not stand here
-abbrev pub after_value : ℕ → BlockRead → Code → Led
-after_value repeats b (code.Block id) =
-    if nat_eq id b.id then (if nat_lt b.pairs repeats then quietly (AwaitsValue b) else again InitRepeat (code.Block id))
-    else (if nat_eq id (next_id b.id) then (if may_end repeats b then quietly (begun id false b.blocks) else again InitRepeat (code.Block id))
-    else again InitOrder (code.Block id))
-after_value repeats b code.Ready = if may_end repeats b then record { step = step.Done b.blocks; next = Idle } else again InitRepeat code.Ready
-after_value repeats b (code.Value value) = again InitOrder (code.Value value)
-after_value repeats b (code.Signal n) = again InitOrder (code.Signal n)
-after_value repeats b code.Busy = again InitOrder code.Busy
-after_value repeats b code.Defect = again InitOrder code.Defect
-after_value repeats b (code.Reserved n) = again InitOrder (code.Reserved n)
+-- the block of this ID may end behind these codes: all its pairs are there, or its beginning wasn't seen
+abbrev pub may_end : ℕ → ℕ → List Code → Bool
+may_end repeats id before = nat_eq (pairs_of id before) repeats || is_loose id before
 
--- what a code leads to, where each block is sent so many times
-unfoldable pub led_by : ℕ → Standing → Code → Led
-led_by repeats Fresh c = quietly (after_fresh c)
-led_by repeats Idle c = after_idle c
-led_by repeats (AwaitsValue b) c = after_id repeats b c
-led_by repeats (AwaitsId b) c = after_value repeats b c
+-- behind a value of the block of this ID: the ID again while pairs are missing, the next ID or Ready where the block may end; too few or too many pairs are a wrong repeat, and any other code may not stand here
+abbrev pub behind_value : ℕ → ℕ → List Code → Code → InitStep
+behind_value repeats id before (code.Block other) =
+    if nat_eq other id then (if nat_lt (pairs_of id before) repeats then step.Nothing else step.Bad InitRepeat)
+    else (if nat_eq other (next_id id) then (if may_end repeats id before then step.Nothing else step.Bad InitRepeat)
+    else step.Bad InitOrder)
+behind_value repeats id before code.Ready = if may_end repeats id before then step.Done (whole_blocks repeats before) else step.Bad InitRepeat
+behind_value repeats id before (code.Value value) = step.Bad InitOrder
+behind_value repeats id before (code.Signal number) = step.Bad InitOrder
+behind_value repeats id before code.Busy = step.Bad InitOrder
+behind_value repeats id before code.Defect = step.Bad InitOrder
+behind_value repeats id before (code.Reserved number) = step.Bad InitOrder
 
--- the steps of codes, one for each, from a standing on
-unfoldable pub steps_from : ℕ → Standing → List Code → List InitStep
-steps_from repeats standing [] = []
-steps_from repeats standing (c ∷ codes) = (led_by repeats standing c).step ∷ steps_from repeats (led_by repeats standing c).next codes
+-- outside a phase: ID 1 begins one, and another ID or a value may not stand here
+abbrev pub outside : Code → InitStep
+outside (code.Block id) = if nat_eq id 1 then step.Nothing else step.Bad InitOrder
+outside (code.Value value) = step.Bad InitOrder
+outside (code.Signal number) = step.Nothing
+outside code.Ready = step.Nothing
+outside code.Busy = step.Nothing
+outside code.Defect = step.Nothing
+outside (code.Reserved number) = step.Nothing
+
+-- the step of a code, behind the codes since the start or, with the code that was told, the last fault: nothing while no ID or nothing but values came before it
+unfoldable pub step_behind : ℕ → List Code → Code → InitStep
+step_behind repeats [] c = step.Nothing
+step_behind repeats (code.Block id ∷ before) c = behind_id repeats id before c
+step_behind repeats (code.Value value ∷ code.Block id ∷ before) c = behind_value repeats id (code.Value value ∷ code.Block id ∷ before) c
+step_behind repeats (code.Value value ∷ before) c = step.Nothing
+step_behind repeats (other ∷ before) c = outside c
+
+-- the codes since the start or the last fault, with one code more: behind a fault reading begins again with the code that was told
+abbrev pub since : List Code → Code → InitStep → List Code
+since before c (step.Bad rule) = c ∷ []
+since before c step.Nothing = c ∷ before
+since before c (step.Block id value) = c ∷ before
+since before c (step.Done blocks) = c ∷ before
+
+-- the steps of codes, one for each, behind these since the start or the last fault
+unfoldable pub steps_behind : ℕ → List Code → List Code → List InitStep
+steps_behind repeats before [] = []
+steps_behind repeats before (c ∷ codes) = step_behind repeats before c ∷ steps_behind repeats (since before c (step_behind repeats before c)) codes
 
 -- the steps of codes, one for each, where each block is sent so many times
-abbrev pub init_reading : ℕ → List Code → List InitStep
-init_reading repeats codes = steps_from repeats Fresh codes
+unfoldable pub init_reading : ℕ → List Code → List InitStep
+init_reading repeats codes = steps_behind repeats [] codes

@@ -1,7 +1,8 @@
 //! The reader of an initialisation phase.
 ghost use Rattle.std.specs.Prelude.{◌≡◌, ◌+◌, ◌<◌, ◌≤◌, ◌^◌, ◌++◌, [], ◌∷◌, List, length, ℕ};
-ghost use Rattle.psi5_init.specs.Readings as readings;
-ghost use Rattle.psi5_init.specs.Readings.{Led, init_reading};
+ghost use Rattle.psi5_init.specs.Standings as standings;
+ghost use Rattle.psi5_init.specs.Standings.{Led};
+ghost use Rattle.psi5_init.specs.Readings.{init_reading};
 ghost use Rattle.psi5_init.specs.Kept.{IsState, block_of, blocks_in, standing_of};
 
 use crate::code::Code;
@@ -39,7 +40,7 @@ pub enum State {
 
 /// In the block of this ID, none of whose pairs was seen.
 fn begun(id: u8, loose: bool, blocks: u64) -> State
-    ensures standing { standing_of result ≡ readings.begun id loose blocks }
+    ensures standing { standing_of result ≡ standings.begun id loose blocks }
     ensures valid { (repeats : ℕ) → 1 ≤ repeats → IsState repeats result }
     ensures blocks { blocks_in result ≡ blocks }
 {
@@ -54,7 +55,7 @@ fn begun(id: u8, loose: bool, blocks: u64) -> State
 
 /// Where a code leads that is the first to tell something.
 fn after_fresh(code: Code) -> State
-    ensures standing { standing_of result ≡ readings.after_fresh code }
+    ensures standing { standing_of result ≡ standings.after_fresh code }
     ensures valid { (repeats : ℕ) → 1 ≤ repeats → IsState repeats result }
     ensures blocks { blocks_in result ≡ 0 }
 {
@@ -68,7 +69,7 @@ fn after_fresh(code: Code) -> State
 
 /// A rule is violated, and the same code is read as the first to tell something.
 fn again(rule: Rule, code: Code) -> (State, InitStep)
-    ensures led { record { step = result.1; next = standing_of result.0 } ≡ readings.again rule code }
+    ensures led { record { step = result.1; next = standing_of result.0 } ≡ standings.again rule code }
     ensures valid { (repeats : ℕ) → 1 ≤ repeats → IsState repeats result.0 }
     ensures blocks { blocks_in result.0 ≡ 0 }
 {
@@ -77,7 +78,7 @@ fn again(rule: Rule, code: Code) -> (State, InitStep)
 
 /// Where a code leads outside a phase.
 fn after_idle(code: Code) -> (State, InitStep)
-    ensures led { record { step = result.1; next = standing_of result.0 } ≡ readings.after_idle code }
+    ensures led { record { step = result.1; next = standing_of result.0 } ≡ standings.after_idle code }
     ensures valid { (repeats : ℕ) → 1 ≤ repeats → IsState repeats result.0 }
     ensures blocks { blocks_in result.0 ≡ 0 }
 {
@@ -95,7 +96,7 @@ fn after_id(repeats: u8, block: OpenBlock, code: Code) -> (State, InitStep)
     requires few { repeats ≤ 16 }
     requires pairs { block.pairs < repeats }
     requires blocks { block.blocks < 2 ^ 61 }
-    ensures led { record { step = result.1; next = standing_of result.0 } ≡ readings.after_id repeats (block_of block) code }
+    ensures led { record { step = result.1; next = standing_of result.0 } ≡ standings.after_id repeats (block_of block) code }
     ensures valid { IsState repeats result.0 }
     ensures blocks { blocks_in result.0 ≤ block.blocks + 1 }
 {
@@ -118,7 +119,7 @@ fn after_id(repeats: u8, block: OpenBlock, code: Code) -> (State, InitStep)
 
 /// The ID after this one: 16 is followed by 1.
 fn next_id(id: u8) -> u8
-    ensures { result ≡ readings.next_id id }
+    ensures { result ≡ standings.next_id id }
 {
     id % 16 + 1
 }
@@ -127,7 +128,7 @@ fn next_id(id: u8) -> u8
 fn after_value(repeats: u8, block: OpenBlock, code: Code) -> (State, InitStep)
     requires some { 1 ≤ repeats }
     requires pairs { block.pairs ≤ repeats }
-    ensures led { record { step = result.1; next = standing_of result.0 } ≡ readings.after_value repeats (block_of block) code }
+    ensures led { record { step = result.1; next = standing_of result.0 } ≡ standings.after_value repeats (block_of block) code }
     ensures valid { IsState repeats result.0 }
     ensures blocks { blocks_in result.0 ≤ block.blocks }
 {
@@ -160,13 +161,13 @@ fn after_value(repeats: u8, block: OpenBlock, code: Code) -> (State, InitStep)
 }
 
 /// Where a code leads, and what it ends.
-#[tactic(auto, unfolding(crate::specs::Readings::led_by))]
+#[tactic(auto, unfolding(crate::specs::Standings::led_by))]
 fn after_code(repeats: u8, state: State, code: Code) -> (State, InitStep)
     requires some { 1 ≤ repeats }
     requires few { repeats ≤ 16 }
     requires valid { IsState repeats state }
     requires blocks { blocks_in state < 2 ^ 61 }
-    ensures led { record { step = result.1; next = standing_of result.0 } ≡ readings.led_by repeats (standing_of state) code }
+    ensures led { record { step = result.1; next = standing_of result.0 } ≡ standings.led_by repeats (standing_of state) code }
     ensures valid { IsState repeats result.0 }
     ensures blocks { blocks_in result.0 ≤ blocks_in state + 1 }
 {
