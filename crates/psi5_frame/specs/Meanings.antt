@@ -112,7 +112,26 @@ Violates s first later number rule.EndsHigh =
     IsRightUpTo (bit_count s) first later number × IsReached (last_middle (bit_count s)) later × ((last_of first later).level ≡ true)
 Violates s first later number rule.Psi5Check =
     IsRightUpTo (bit_count s) first later number × IsReached (last_middle (bit_count s)) later × ((last_of first later).level ≡ false) × HasWrongCheck s (said_bits first later)
-Violates s first later number _ = ⊥
+Violates s first later number rule.NoCalibration = ⊥
+Violates s first later number rule.Drift = ⊥
+Violates s first later number rule.NibbleRange = ⊥
+Violates s first later number rule.Check = ⊥
+Violates s first later number rule.PauseRange = ⊥
+Violates s first later number rule.Copy = ⊥
+Violates s first later number rule.Restart = ⊥
+Violates s first later number rule.Zero13 = ⊥
+Violates s first later number rule.Zero18 = ⊥
+Violates s first later number rule.SerialCheck = ⊥
+Violates s first later number rule.TriggerWidth = ⊥
+Violates s first later number rule.Delay = ⊥
+Violates s first later number rule.NoSync = ⊥
+Violates s first later number rule.NoSlot = ⊥
+Violates s first later number rule.SlotTwice = ⊥
+Violates s first later number rule.InitOrder = ⊥
+Violates s first later number rule.InitRepeat = ⊥
+Violates s first later number rule.SyncBit = ⊥
+Violates s first later number rule.DownCheck = ⊥
+Violates s first later number rule.StartPattern = ⊥
 
 -- a burst that is read there is the waveform of this payload's frame, where its levels alternate, and this is its last edge's number
 pub record HasFrame (s : Settings) (edges : List Change) (number : ℕ) (payload : Payload) : Type 0 where

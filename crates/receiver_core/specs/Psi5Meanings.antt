@@ -102,7 +102,21 @@ BurstRuleStands s slots init edges number rule.NoSlot = HasWrongPlace s slots ed
 BurstRuleStands s slots init edges number rule.SlotTwice = HasWrongPlace s slots edges number rule.SlotTwice
 BurstRuleStands s slots init edges number rule.InitOrder = HasStep s slots init edges number (step.Bad rule.InitOrder)
 BurstRuleStands s slots init edges number rule.InitRepeat = HasStep s slots init edges number (step.Bad rule.InitRepeat)
-BurstRuleStands s slots init edges number _ = ⊥
+BurstRuleStands s slots init edges number rule.NoCalibration = ⊥
+BurstRuleStands s slots init edges number rule.Drift = ⊥
+BurstRuleStands s slots init edges number rule.NibbleRange = ⊥
+BurstRuleStands s slots init edges number rule.Check = ⊥
+BurstRuleStands s slots init edges number rule.PauseRange = ⊥
+BurstRuleStands s slots init edges number rule.Copy = ⊥
+BurstRuleStands s slots init edges number rule.Restart = ⊥
+BurstRuleStands s slots init edges number rule.Zero13 = ⊥
+BurstRuleStands s slots init edges number rule.Zero18 = ⊥
+BurstRuleStands s slots init edges number rule.SerialCheck = ⊥
+BurstRuleStands s slots init edges number rule.TriggerWidth = ⊥
+BurstRuleStands s slots init edges number rule.Delay = ⊥
+BurstRuleStands s slots init edges number rule.SyncBit = ⊥
+BurstRuleStands s slots init edges number rule.DownCheck = ⊥
+BurstRuleStands s slots init edges number rule.StartPattern = ⊥
 
 -- what is said at this place stands for
 abbrev pub BurstStands : Settings → Option SyncSlots → Option ℕ → List NumberedEdge → ℕ → What → Type 0
