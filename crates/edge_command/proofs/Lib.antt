@@ -8,6 +8,7 @@ pub mod EdgeLists
 pub mod TakeBytes
 pub mod LastLines
 pub mod Fronts
+pub mod Tellings
 pub mod Runs
 pub mod Blocks
 pub mod Pulls

@@ -1,4 +1,5 @@
 pub mod Channels
+pub mod Tellings
 pub mod Writes
 pub mod Followed
 pub mod Runs
