@@ -8,6 +8,8 @@ pub mod Channels
 pub mod OpenStretches
 pub mod Readers
 pub mod Tallies
+pub mod SentTraces
+pub mod Traces
 pub mod Psi5Places
 pub mod Psi5Reports
 pub mod Psi5Stretches

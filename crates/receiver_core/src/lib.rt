@@ -7,6 +7,7 @@
 
 mod init_readers;
 mod meaning;
+mod message;
 mod psi5_burst;
 mod psi5_channel;
 mod receiver;
@@ -22,6 +23,7 @@ mod tests;
 mod tooth_channel;
 
 pub use meaning::{reports_grow, reports_have_meaning};
+pub use message::Message;
 pub use receiver::Receiver;
 pub use report::{Report, What};
 pub use setup::{ChannelSetup, Serial, SyncSlots};
