@@ -6,3 +6,8 @@
 //! do nothing, and their contracts say what holds.
 #![tactic(auto)]
 
+mod bounds;
+mod honest;
+
+pub use bounds::pauses_end_at_12_and_768_ticks;
+pub use honest::{honest_frames_are_read, jittered_frames_are_honest, nominal_frames_are_honest};

@@ -18,3 +18,8 @@ abbrev pub OpensAfter : ℕ → ℕ → List ℕ → Type 0
 OpensAfter jitter opening [] = Unit {0}
 OpensAfter jitter opening (ideal ∷ []) = ideal ≤ 1000 * (opening + jitter)
 OpensAfter jitter opening (ideal ∷ next ∷ ideals) = OpensAfter jitter opening (next ∷ ideals)
+
+-- a pulse of this ideal length in ps is heard as this length in ns: each of its two edges may be off by the jitter (in ns)
+pub record IsHeard (jitter ideal heard : ℕ) : Type 0 where
+  pub not_too_short : ideal ≤ 1000 * heard + 2000 * jitter
+  pub not_too_long : 1000 * heard ≤ ideal + 2000 * jitter

@@ -6,3 +6,13 @@
 //! and their contracts say what holds.
 #![tactic(auto)]
 
+mod bounds;
+mod pulses;
+
+pub use bounds::{
+    drift_ends_at_a_200th, jitter_ends_at_its_bound, own_ticks_end_at_a_400th, ticks_end_at_a_fifth,
+};
+pub use pulses::{
+    calibrations_are_heard, drifting_calibrations_are_steady, edges_end_pulses, nibbles_are_heard,
+    nibbles_never_calibrate, pauses_are_heard,
+};
