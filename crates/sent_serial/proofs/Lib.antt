@@ -12,3 +12,6 @@ pub mod ShortMessages
 pub mod FrameRanges
 pub mod ShortMeanings
 pub mod EnhancedMeanings
+pub mod MessagesTold
+pub mod SentBits
+pub mod SentParts
