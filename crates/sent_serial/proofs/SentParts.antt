@@ -3,7 +3,7 @@
 --     on_its_way      behind the first frames of a message
 --     lost      behind frames that aren't there
 --     part_reads      of any part
-use Rattle.std.proofs.Common.{◌≡◌, ℕ, zero, suc, ◌+◌, ◌<◌, ◌≤◌, List, [], ◌∷◌, ◌++◌, true, false, length, map, take, drop, refl, sym, ap, ap₂, ◌∙◌, append-nil, append_assoc, length-append, arith}
+use Rattle.std.proofs.Common.{◌≡◌, ℕ, zero, suc, ◌+◌, ◌<◌, ◌≤◌, List, [], ◌∷◌, ◌++◌, None, true, false, length, map, take, drop, refl, sym, ap, ap₂, ◌∙◌, append-nil, append_assoc, length-append, arith}
 use Rattle.std.specs.List.{All}
 use Rattle.std.proofs.lemmas.List.{drop-take, map-append}
 use Rattle.std.proofs.lemmas.List.Elements.{All-head, All-tail}
@@ -11,7 +11,7 @@ use Rattle.sent_serial.specs.declared.step.SerialStep.{SerialStep}
 use Rattle.sent_serial.specs.declared.step.SerialStep.TheVariants as step
 use Rattle.sent_serial.specs.Statuses.{HasTwoBits, start_bit, value_bit}
 use Rattle.sent_serial.specs.SentStatuses.{statuses_sent}
-use Rattle.sent_serial.specs.Sendings.{Sending, SentStatus, sent_from, sent_statuses, FitsFrom, messages_told}
+use Rattle.sent_serial.specs.Sendings.{Sending, SentStatus, ended_by, sent_from, sent_statuses, FitsFrom, messages_told}
 use Rattle.sent_serial.specs.Sendings.Sending.{Frame, Message}
 use Rattle.sent_serial.proofs.KeptBits.{length-map}
 use Rattle.sent_serial.proofs.MessagesTold.{not_told, told_here}
@@ -145,6 +145,29 @@ nothing_kept : (IsSent : SerialStep → Type 0) (message : SerialStep) (kept : L
 nothing_kept IsSent message kept before [] none way = way
 nothing_kept IsSent message kept before (next ∷ left) none way = absurd (cc (none))
 
+-- ---- where a part ends
+-- the sendings up to so many frames
+up_to : ℕ → List Sending → List Sending
+up_to zero sendings = []
+up_to (suc count) [] = []
+up_to (suc count) (Frame own ∷ sendings) = Frame own ∷ up_to count sendings
+up_to (suc count) (Message message ∷ sendings) = Message message ∷ up_to (suc count) sendings
+
+sent_up_to : (count : ℕ) (message : SerialStep) (left : List ℕ) (sendings : List Sending) → take count (sent_from message left sendings) ≡ sent_from message left (up_to count sendings)
+unfolding sent_from up_to
+sent_up_to zero message left sendings = refl
+sent_up_to (suc count) message left [] = refl
+sent_up_to (suc count) message [] (Frame own ∷ sendings) = ap (λ sent. record { status = own; ends = None } ∷ sent) (sent_up_to count message [] sendings)
+sent_up_to (suc count) message (next ∷ left) (Frame own ∷ sendings) = ap (λ sent. record { status = next + own; ends = ended_by message left } ∷ sent) (sent_up_to count message left sendings)
+sent_up_to (suc count) message left (Message other ∷ sendings) = sent_up_to (suc count) other (statuses_sent other) sendings
+
+fits_up_to : (IsSent : SerialStep → Type 0) (count : ℕ) (left : List ℕ) (sendings : List Sending) → FitsFrom IsSent left sendings → FitsFrom IsSent left (up_to count sendings)
+unfolding up_to
+fits_up_to IsSent zero left sendings fits = tt
+fits_up_to IsSent (suc count) left [] fits = tt
+fits_up_to IsSent (suc count) left (Frame own ∷ sendings) fits = (fits.0, fits_up_to IsSent count (drop 1 left) sendings fits.1)
+fits_up_to IsSent (suc count) left (Message message ∷ sendings) fits = (fits.0, fits.1, fits_up_to IsSent (suc count) (statuses_sent message) sendings fits.2)
+
 -- ---- what is read
 module _ (IsSent : SerialStep → Type 0) (reading : List ℕ → List SerialStep) (of : IsReading IsSent reading) where
 
@@ -219,3 +242,9 @@ module _ (IsSent : SerialStep → Type 0) (reading : List ℕ → List SerialSte
   behind_cut (suc cut) message [] (Frame own ∷ sendings) is fits = behind_cut cut message [] sendings tt fits.1
   behind_cut (suc cut) message (next ∷ left) (Frame own ∷ sendings) is fits = behind_cut cut message left sendings (next_left IsSent message next left is) fits.1
   behind_cut (suc cut) message left (Message other ∷ sendings) is fits = behind_cut (suc cut) other (statuses_sent other) sendings (begins_left IsSent other (statuses_sent other) refl fits.0) fits.2
+
+  pub part_reads : (sendings : List Sending) (cut count : ℕ) → FitsFrom IsSent [] sendings → Reads [] 0 (take count (drop cut (sent_statuses sendings)))
+  part_reads sendings cut count fits =
+      let part : take count (drop cut (sent_statuses sendings)) ≡ drop cut (sent_from step.Nothing [] (up_to (cut + count) sendings)) =
+          sym (drop-take cut count (sent_statuses sendings)) ∙ ap (drop cut) (sent_up_to (cut + count) step.Nothing [] sendings) in
+      rw part (behind_cut cut step.Nothing [] (up_to (cut + count) sendings) tt (fits_up_to IsSent (cut + count) [] sendings fits))
