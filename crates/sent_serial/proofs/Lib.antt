@@ -15,3 +15,4 @@ pub mod EnhancedMeanings
 pub mod MessagesTold
 pub mod SentBits
 pub mod SentParts
+pub mod SentFields
