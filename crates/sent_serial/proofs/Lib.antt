@@ -16,3 +16,4 @@ pub mod MessagesTold
 pub mod SentBits
 pub mod SentParts
 pub mod SentFields
+pub mod SentShort

@@ -1,6 +1,6 @@
 -- The bits of statuses that are sent.
 --     SameBits, SameStarts      statuses with the same bits
---     same_at, front_at      place by place, also for a front
+--     same_length, same_at, front_at      as many, place by place, and of a front
 --     value_bits-of, start_bits-of, statuses-from      statuses from their bits, and back
 --     two_bits-sent      the statuses of a message have no other bits set
 --     own_start, own_value, own_clear      a frame's own bits are none of them
@@ -12,6 +12,7 @@ use Rattle.link_math.specs.Division.{bits_of}
 use Rattle.sent_serial.specs.declared.step.SerialStep.{SerialStep}
 use Rattle.sent_serial.specs.declared.step.SerialStep.TheVariants as step
 use Rattle.sent_serial.specs.Statuses.{HasTwoBits, start_bit, value_bit}
+use Rattle.sent_serial.proofs.KeptBits.{length-map}
 use Rattle.sent_serial.specs.SentStatuses.{status_of, statuses_of, short_statuses, statuses_before, enhanced_statuses, statuses_sent}
 
 -- these have the same value bits and the same start bits
@@ -62,6 +63,9 @@ own_clear own small =
     ap (λ n. nat_eq n 1) none
 
 -- ---- place by place
+pub same_length : (statuses others : List ℕ) → SameBits statuses others → length statuses ≡ length others
+same_length statuses others same = sym (length-map start_bit statuses) ∙ ap length same.starts ∙ length-map start_bit others
+
 pub same_at : (statuses others : List ℕ) (place : ℕ) → SameBits statuses others → start_bit (get_or statuses place 0) ≡ start_bit (get_or others place 0)
 same_at statuses others place same =
     sym (get_or-map start_bit statuses place 0) ∙ ap (λ bits. get_or bits place (start_bit 0)) same.starts ∙ get_or-map start_bit others place 0

@@ -35,9 +35,6 @@ next_two_bits : (front : List ℕ) (next : ℕ) (left : List ℕ) → All HasTwo
 next_two_bits [] next left all = (All-head HasTwoBits next left all, All-tail HasTwoBits next left all)
 next_two_bits (bits ∷ front) next left all = next_two_bits front next left (All-tail HasTwoBits bits (front ++ next ∷ left) all)
 
-same_length : (statuses others : List ℕ) → SameBits statuses others → length statuses ≡ length others
-same_length statuses others same = sym (length-map start_bit statuses) ∙ ap length same.starts ∙ length-map start_bit others
-
 -- one frame more has the same bits
 same_next : (kept front : List ℕ) (next own : ℕ) → SameBits kept front → HasTwoBits next → own < 4 → SameBits (kept ++ (next + own) ∷ []) (front ++ next ∷ [])
 same_next kept front next own same two small = record {
