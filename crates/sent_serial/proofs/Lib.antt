@@ -17,3 +17,4 @@ pub mod SentBits
 pub mod SentParts
 pub mod SentFields
 pub mod SentShort
+pub mod SentEnhanced
