@@ -12,3 +12,9 @@ pub mod ShortMessages
 pub mod FrameRanges
 pub mod ShortMeanings
 pub mod EnhancedMeanings
+pub mod MessagesTold
+pub mod SentBits
+pub mod SentParts
+pub mod SentFields
+pub mod SentShort
+pub mod SentEnhanced

@@ -73,7 +73,7 @@ bit_at bit_of (status ∷ rest) (suc width) register are (suc place) later fits 
     let others : map bit_of rest ≡ bits_of width register = cc in
     bit_at bit_of rest width register others place later (omega arith)
 
-set_from : (statuses : List ℕ) (count : ℕ) → count < length statuses → ((k : ℕ) → k < count → start_bit (get_or statuses k 0) ≡ true) → start_bit (get_or statuses count 0) ≡ false → set_before statuses ≡ count
+pub set_from : (statuses : List ℕ) (count : ℕ) → count < length statuses → ((k : ℕ) → k < count → start_bit (get_or statuses k 0) ≡ true) → start_bit (get_or statuses count 0) ≡ false → set_before statuses ≡ count
 set_from [] count within all last = absurd (omega arith)
 set_from (status ∷ later) zero within all last = set_none status later last
 set_from (status ∷ later) (suc count) within all last =

@@ -5,4 +5,6 @@ pub mod Enhanced
 pub mod Kept
 pub mod Messages
 pub mod Meanings
+pub mod SentStatuses
+pub mod Sendings
 pub mod Readers
