@@ -18,3 +18,5 @@ pub mod ReportFronts
 pub mod Takeable
 pub mod Tallies
 pub mod NoGaps
+pub mod SentTraces
+pub mod Traces
