@@ -2,24 +2,23 @@
 --     values_heard      its pulses carry its values
 --     frame_heard       it is checked and good
 --     read_frame        it is reported, and behind it and its pause the next one is due
-use Rattle.std.proofs.Common.{◌≡◌, ℕ, zero, suc, ◌+◌, ◌*◌, ◌<◌, ◌≤◌, List, [], ◌∷◌, ◌++◌, Bool, true, false, ◌==◌, Some, length, map, drop, take, slice_index, if◌then◌else◌, refl, ap, ap₂, sym, ◌∙◌, subst, eq-eqb, arith}
+use Rattle.std.proofs.Common.{◌≡◌, ℕ, suc, ◌+◌, ◌*◌, ◌<◌, ◌≤◌, List, [], ◌∷◌, ◌++◌, Bool, true, false, Some, length, drop, take, slice_index, if◌then◌else◌, refl, ap, ap₂, sym, ◌∙◌, subst, eq-eqb, arith}
 use Rattle.std.proofs.lemmas.List.{drop-drop, get_or_at, length-drop, take_at}
 use Rattle.std.proofs.lemmas.List.Elements.{All-drop, All-head, All-tail}
 use Rattle.std.specs.List.{All}
 use Rattle.line_base.specs.Readings.Found.{Past, Reported}
 use Rattle.link_math.specs.Sent.{value_of}
 use Rattle.sent_frame.specs.declared.frame.SentFrame.{SentFrame}
-use Rattle.sent_frame.specs.declared.frame.SentStep.TheVariants.{Good, Bad}
-use Rattle.line_base.specs.declared.rule.Rule.TheVariants as rule
+use Rattle.sent_frame.specs.declared.frame.SentStep.TheVariants.{Good}
 use Rattle.sent_frame.specs.Setup.{Settings, InRange}
 use Rattle.sent_frame.specs.Pulses.{Pulse}
 use Rattle.sent_frame.specs.Reading.{Standing, Hunting, PauseDue, CalibrationDue, Carried, values_of, with_value, crc_of, may_calibrate, place_at, checked, due_after, frame_of, frame_from, found}
 use Rattle.sent_frame.proofs.SentTicks.{value_ticks}
 use Rattle.tolerance.specs.Recorded.{IsHeard}
-use Rattle.tolerance.specs.Ticks.{IsTick, IsOwnTick, FollowsTick}
+use Rattle.tolerance.specs.Ticks.{IsTick, IsOwnTick}
 use Rattle.tolerance.proofs.HeardPulses.{calibration_heard, calibrations_steady, never_long, nibble_short, pause_heard, value_heard}
 use Rattle.sent_tolerance.specs.FromFirst.{pulse_count}
-use Rattle.sent_tolerance.specs.Trains.{FitsSetup, IsSent, Sending, lengths_of, pulses_sent, DriftsTo}
+use Rattle.sent_tolerance.specs.Trains.{IsSent, Sending, lengths_of, pulses_sent, DriftsTo}
 use Rattle.sent_tolerance.proofs.FrameTicks.{values_in, pause_ticks, ticks_apart, values_small, length_values, length_ticks}
 use Rattle.sent_tolerance.proofs.Steps.{reading, over_pulse, over_frame, found_frame, found_pause, found_steady}
 

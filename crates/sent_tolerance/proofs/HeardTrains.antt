@@ -3,16 +3,15 @@
 --     read_from       from any fall on
 --     length_train    how many pulses they have
 --     read_honest     of an honest trace
-use Rattle.std.proofs.Common.{◌≡◌, ℕ, zero, suc, ◌+◌, ◌-◌, ◌*◌, ◌<◌, ◌≤◌, ◌⊎◌, min, List, [], ◌∷◌, ◌++◌, length, map, drop, flat_map, inl, inr, refl, ap, ap₂, sym, ◌∙◌, subst, arith}
+use Rattle.std.proofs.Common.{◌≡◌, ℕ, zero, suc, ◌+◌, ◌-◌, ◌*◌, ◌⊎◌, min, List, [], ◌∷◌, ◌++◌, length, map, drop, flat_map, inl, inr, refl, ap, ap₂, sym, ◌∙◌, subst, arith}
 use Rattle.std.proofs.lemmas.Bool.{cases_lt}
 use Rattle.std.proofs.lemmas.List.{drop-map, drop_all, drop_min, length-append, length-drop, length-map}
 use Rattle.line_base.specs.Edges.{NumberedEdge}
 use Rattle.sent_frame.specs.declared.frame.SentFrame.{SentFrame}
-use Rattle.sent_frame.specs.declared.frame.SentStep.{SentStep}
 use Rattle.sent_frame.specs.declared.frame.SentStep.TheVariants.{Good}
 use Rattle.sent_frame.specs.Setup.{Settings, InRange}
 use Rattle.sent_frame.specs.Pulses.{Fall, Pulse, falls_of, pulses_between}
-use Rattle.sent_frame.specs.Reading.{Standing, Hunting, CalibrationDue, place_at, sent_reading}
+use Rattle.sent_frame.specs.Reading.{Standing, Hunting, CalibrationDue, sent_reading}
 use Rattle.sent_frame.proofs.SentTicks.{value_ticks}
 use Rattle.tolerance.specs.Recorded.{AreRecorded}
 use Rattle.tolerance.proofs.HeardPulses.{calibration_heard}

@@ -3,20 +3,21 @@
 --     nominal_ideal        their ideal falls
 --     are_honest           they are an honest trace wherever their falls are recorded
 --     not_jittered         with no jitter at all
-use Rattle.std.proofs.Common.{◌≡◌, ℕ, suc, ◌+◌, ◌*◌, ◌≤◌, None, true, false, List, [], ◌∷◌, ◌++◌, length, drop, map, flat_map, refl, ap, ap₂, sym, ◌∙◌, subst, arith}
-use Rattle.std.proofs.lemmas.List.{length-map, map-append}
+--     train_is_honest      any train has an honest trace
+use Rattle.std.proofs.Common.{◌≡◌, ℕ, suc, ◌+◌, ◌*◌, ◌≤◌, None, true, List, [], ◌∷◌, ◌++◌, drop, take, map, flat_map, refl, ap, ap₂, sym, ◌∙◌, arith}
+use Rattle.std.proofs.lemmas.List.{drop-map, length-map, map-append, take-map}
 use Rattle.std.proofs.lemmas.List.Elements.{All-head, All-map, All-tail}
 use Rattle.std.specs.List.{All}
-use Rattle.line_base.specs.Edges.{NumberedEdge}
 use Rattle.sent_frame.specs.declared.frame.SentFrame.{SentFrame}
 use Rattle.sent_frame.specs.Setup.{Settings, fault_of}
-use Rattle.sent_frame.specs.Pulses.{Fall, falls_in}
+use Rattle.sent_frame.specs.Pulses.{falls_in}
 use Rattle.sent_frame.specs.Frames.{ticks_of}
-use Rattle.tolerance.specs.Recorded.{AreRecorded, IsRecorded}
-use Rattle.tolerance.specs.Ticks.{FollowsTick, IsNear, IsOwnTick}
-use Rattle.sent_tolerance.specs.Nominal.{AreJittered, edges_from, edges_of, nominal_falls}
+use Rattle.tolerance.specs.Recorded.{AreRecorded, OpensAfter}
+use Rattle.tolerance.specs.Ticks.{IsOwnTick}
+use Rattle.sent_tolerance.specs.Nominal.{AreJittered, edges_from, edges_of, nominal_falls, told_in_ns}
 use Rattle.sent_tolerance.specs.Traces.{IsHonest}
-use Rattle.sent_tolerance.specs.Trains.{DriftsTo, FitsSetup, IsSent, IsTrain, Sending, falls_behind, ideal_falls, lengths_of, pulses_sent}
+use Rattle.sent_tolerance.specs.Trains.{DriftsTo, FitsSetup, IsSent, IsTrain, Sending, falls_behind, ideal_falls, lengths_of}
+use Rattle.sent_tolerance.proofs.FrameTicks.{setup_range}
 use Rattle.sent_tolerance.proofs.HeardTrains.{frames_of, lengths_sent}
 use Rattle.sent_tolerance.proofs.RecordedFalls.{times_of}
 
@@ -104,19 +105,45 @@ are_recorded jitter (nominal ∷ nominals) [] near = absurd near
 are_recorded jitter (nominal ∷ nominals) (time ∷ times) near =
     (record { not_too_early = omega (arith, near.0); not_too_late = omega (arith, near.1) }, are_recorded jitter nominals times near.2)
 
-pub are_honest : (s : Settings) (start pause : ℕ) (frames : List SentFrame) (times : List ℕ) → fault_of s.tick s.jitter s.nibbles ≡ None → All (FitsSetup s) frames → (s.pause ≡ true → (12 ≤ pause) × (pause ≤ 768))
-    → AreJittered s.jitter (nominal_falls s start pause frames) times → IsHonest s frames (edges_of s times)
-are_honest s start pause frames times accepted fit pauses near = record {
-  accepted = accepted;
-  sent = nominal_sendings s pause frames;
-  carries = carries_frames s pause frames;
-  train = nominal_train s pause frames fit pauses;
-  start = 1000 * start;
-  left_out = 0;
-  recorded = rw (nominal_ideal s start pause frames, times_are s.tick 1 times) (are_recorded s.jitter (nominal_falls s start pause frames) times near);
-  opens = tt;
-}
+opens_after : (jitter opening : ℕ) (falls : List ℕ) → All (λ fall. fall ≤ opening + jitter) falls → OpensAfter jitter opening (in_ps falls)
+opens_after jitter opening [] before = tt
+opens_after jitter opening (fall ∷ []) before = omega (arith, All-head (λ f. f ≤ opening + jitter) fall [] before)
+opens_after jitter opening (fall ∷ next ∷ falls) before = opens_after jitter opening (next ∷ falls) (All-tail (λ f. f ≤ opening + jitter) fall (next ∷ falls) before)
+
+pub are_honest : (s : Settings) (start pause left_out opening : ℕ) (frames : List SentFrame) (times : List ℕ) → fault_of s.tick s.jitter s.nibbles ≡ None → All (FitsSetup s) frames → (s.pause ≡ true → (12 ≤ pause) × (pause ≤ 768))
+    → All (λ fall. fall ≤ opening + s.jitter) (take left_out (nominal_falls s start pause frames)) → AreJittered s.jitter (drop left_out (nominal_falls s start pause frames)) times → IsHonest s frames (edges_of s opening times)
+are_honest s start pause left_out opening frames times accepted fit pauses before near =
+    let falls = nominal_falls s start pause frames in
+    record {
+      accepted = accepted;
+      sent = nominal_sendings s pause frames;
+      carries = carries_frames s pause frames;
+      train = nominal_train s pause frames fit pauses;
+      start = 1000 * start;
+      left_out = left_out;
+      recorded = rw (nominal_ideal s start pause frames, drop-map (λ time. 1000 * time) left_out falls, times_are s.tick 1 times) (are_recorded s.jitter (drop left_out falls) times near);
+      opens = rw (nominal_ideal s start pause frames, take-map (λ time. 1000 * time) left_out falls) (opens_after s.jitter opening (take left_out falls) before);
+    }
 
 pub not_jittered : (jitter : ℕ) (times : List ℕ) → AreJittered jitter times times
 not_jittered jitter [] = tt
 not_jittered jitter (time ∷ times) = (omega arith, omega arith, not_jittered jitter times)
+
+-- ---- an exact clock
+exact_clock : (jitter : ℕ) (ideals : List ℕ) → 1 ≤ jitter → AreRecorded jitter ideals (told_in_ns ideals)
+exact_clock jitter [] some = tt
+exact_clock jitter (ideal ∷ ideals) some = (record { not_too_early = omega arith; not_too_late = omega arith }, exact_clock jitter ideals some)
+
+pub train_is_honest : (s : Settings) (start : ℕ) (sent : List Sending) → fault_of s.tick s.jitter s.nibbles ≡ None → IsTrain s sent → IsHonest s (frames_of sent) (edges_of s 0 (told_in_ns (ideal_falls s start sent)))
+train_is_honest s start sent accepted train =
+    let range = setup_range s.tick s.jitter s.nibbles accepted in
+    record {
+      accepted = accepted;
+      sent = sent;
+      carries = refl;
+      train = train;
+      start = start;
+      left_out = 0;
+      recorded = rw (times_are s.tick 1 (told_in_ns (ideal_falls s start sent))) (exact_clock s.jitter (ideal_falls s start sent) range.jitter_low);
+      opens = tt;
+    }

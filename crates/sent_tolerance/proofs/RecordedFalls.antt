@@ -5,7 +5,7 @@
 --     place_is              the places of pulses are the numbers of the falls
 use Rattle.std.proofs.Common.{◌≡◌, ℕ, zero, suc, ◌+◌, List, [], ◌∷◌, length, map, drop, slice_index, refl, ap, sym, subst, arith}
 use Rattle.std.proofs.lemmas.List.{drop_all}
-use Rattle.sent_frame.specs.Pulses.{Fall, Pulse, pulses_after, pulses_between}
+use Rattle.sent_frame.specs.Pulses.{Fall, pulses_after, pulses_between}
 use Rattle.sent_frame.specs.Reading.{place_at}
 use Rattle.tolerance.specs.Recorded.{AreRecorded, IsRecorded}
 use Rattle.tolerance.proofs.HeardPulses.{heard_between}

@@ -10,4 +10,7 @@ mod bounds;
 mod honest;
 
 pub use bounds::pauses_end_at_12_and_768_ticks;
-pub use honest::{honest_frames_are_read, jittered_frames_are_honest, nominal_frames_are_honest};
+pub use honest::{
+    honest_frames_are_read, jittered_frames_are_honest, nominal_frames_are_honest,
+    trains_have_honest_traces,
+};
