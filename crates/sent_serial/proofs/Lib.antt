@@ -18,3 +18,4 @@ pub mod SentParts
 pub mod SentFields
 pub mod SentShort
 pub mod SentEnhanced
+pub mod EncodedStatuses

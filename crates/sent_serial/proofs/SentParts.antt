@@ -11,7 +11,7 @@ use Rattle.sent_serial.specs.declared.step.SerialStep.{SerialStep}
 use Rattle.sent_serial.specs.declared.step.SerialStep.TheVariants as step
 use Rattle.sent_serial.specs.Statuses.{HasTwoBits, start_bit, value_bit}
 use Rattle.sent_serial.specs.SentStatuses.{statuses_sent}
-use Rattle.sent_serial.specs.Sendings.{Sending, SentStatus, ended_by, sent_from, sent_statuses, FitsFrom, messages_told}
+use Rattle.sent_serial.specs.Sendings.{Sending, SentStatus, statuses_in, ended_by, sent_from, sent_statuses, FitsFrom, messages_told}
 use Rattle.sent_serial.specs.Sendings.Sending.{Frame, Message}
 use Rattle.sent_serial.proofs.KeptBits.{length-map}
 use Rattle.sent_serial.proofs.MessagesTold.{not_told, told_here}
@@ -52,12 +52,8 @@ stands_length message front next left stands = ap length stands.is ∙ omega (ar
 stands_two_bits : (message : SerialStep) (front : List ℕ) (next : ℕ) (left : List ℕ) → StandsIn message front next left → HasTwoBits next × All HasTwoBits left
 stands_two_bits message front next left stands = next_two_bits front next left (rw stands.is at (two_bits-sent message))
 
--- the statuses of what is sent
-abbrev statuses : List SentStatus → List ℕ
-statuses sent = map (λ (s : SentStatus). s.status) sent
-
 -- a message's frames to come have its start bits
-same_starts : (IsSent : SerialStep → Type 0) (message : SerialStep) (left : List ℕ) (sendings : List Sending) → All HasTwoBits left → FitsFrom IsSent left sendings → SameStarts left (statuses (sent_from message left sendings))
+same_starts : (IsSent : SerialStep → Type 0) (message : SerialStep) (left : List ℕ) (sendings : List Sending) → All HasTwoBits left → FitsFrom IsSent left sendings → SameStarts left (statuses_in (sent_from message left sendings))
 unfolding sent_from
 same_starts IsSent message [] sendings two fits = tt
 same_starts IsSent message (next ∷ left) [] two fits = tt
@@ -170,7 +166,7 @@ module _ (IsSent : SerialStep → Type 0) (reading : List ℕ → List SerialSte
 
   -- all that is told is read of what is sent from here on, behind what was kept
   abbrev Reads : List ℕ → ℕ → List SentStatus → Type 0
-  Reads kept before sent = reading (kept ++ statuses sent) ≡ messages_told before sent
+  Reads kept before sent = reading (kept ++ statuses_in sent) ≡ messages_told before sent
 
   ends_whole : (message : SerialStep) (kept : List ℕ) (before next own : ℕ) → own < 4 → IsKept IsSent message kept before next [] → SameBits (kept ++ (next + own) ∷ []) (statuses_sent message)
   ends_whole message kept before next own small k =
@@ -183,22 +179,22 @@ module _ (IsSent : SerialStep → Type 0) (reading : List ℕ → List SerialSte
   on_its_way message kept [] [] before way fits = ap reading (append-nil kept ∙ way) ∙ of.none
   on_its_way message kept (next ∷ left) [] before way fits = ap reading (append-nil kept) ∙ of.waits message kept way.front next left way.is_sent way.stands way.same
   on_its_way message kept [] (Frame own ∷ sendings) before way fits =
-      ap (λ k. reading (k ++ own ∷ statuses (sent_from message [] sendings))) way
-      ∙ of.plain own (statuses (sent_from message [] sendings)) (own_clear own fits.0)
+      ap (λ k. reading (k ++ own ∷ statuses_in (sent_from message [] sendings))) way
+      ∙ of.plain own (statuses_in (sent_from message [] sendings)) (own_clear own fits.0)
       ∙ on_its_way message [] [] sendings (suc before) refl fits.1
   on_its_way message kept (next ∷ []) (Frame own ∷ sendings) before way fits =
-      let rest = statuses (sent_from message [] sendings) in
+      let rest = statuses_in (sent_from message [] sendings) in
       let long = stands_length message way.front next [] way.stands in
       ap reading (sym (append_assoc kept ((next + own) ∷ []) rest))
       ∙ of.whole message (kept ++ (next + own) ∷ []) rest way.is_sent (ends_whole message kept before next own fits.0 way)
       ∙ ap (λ steps. message ∷ steps) (on_its_way message [] [] sendings (suc before) refl fits.1)
       ∙ ap (λ told. told ++ messages_told (suc before) (sent_from message [] sendings)) (sym (told_here before message (omega (arith, long, way.behind))))
   on_its_way message kept (next ∷ after ∷ left) (Frame own ∷ sendings) before way fits =
-      let rest = statuses (sent_from message (after ∷ left) sendings) in
+      let rest = statuses_in (sent_from message (after ∷ left) sendings) in
       ap reading (sym (append_assoc kept ((next + own) ∷ []) rest))
       ∙ on_its_way message (kept ++ (next + own) ∷ []) (after ∷ left) sendings (suc before) (next_kept IsSent message kept before next after left own fits.0 way) fits.1
   on_its_way message kept left (Message other ∷ sendings) before way fits =
-      ap (λ k. reading (k ++ statuses (sent_from other (statuses_sent other) sendings))) (nothing_kept IsSent message kept before left fits.1 way)
+      ap (λ k. reading (k ++ statuses_in (sent_from other (statuses_sent other) sendings))) (nothing_kept IsSent message kept before left fits.1 way)
       ∙ on_its_way other [] (statuses_sent other) sendings before (begins IsSent other before (statuses_sent other) refl fits.0) fits.2
 
   pub lost : (message : SerialStep) (left : List ℕ) (sendings : List Sending) (before : ℕ) → IsLost IsSent message before left → FitsFrom IsSent left sendings
@@ -207,14 +203,14 @@ module _ (IsSent : SerialStep → Type 0) (reading : List ℕ → List SerialSte
   lost message [] sendings before is fits = on_its_way message [] [] sendings before refl fits
   lost message (next ∷ left) [] before is fits = of.none
   lost message (next ∷ []) (Frame own ∷ sendings) before is fits =
-      let rest = statuses (sent_from message [] sendings) in
+      let rest = statuses_in (sent_from message [] sendings) in
       let two = stands_two_bits message is.front next [] is.stands in
       let long = stands_length message is.front next [] is.stands in
       of.rest message is.front next [] (next + own) rest is.is_sent is.stands (omega (arith, is.cut)) (own_start next own two.0 fits.0) tt
       ∙ on_its_way message [] [] sendings (suc before) refl fits.1
       ∙ ap (λ told. told ++ messages_told (suc before) (sent_from message [] sendings)) (sym (not_told before message (omega (arith, long, is.cut))))
   lost message (next ∷ after ∷ left) (Frame own ∷ sendings) before is fits =
-      let rest = statuses (sent_from message (after ∷ left) sendings) in
+      let rest = statuses_in (sent_from message (after ∷ left) sendings) in
       let two = stands_two_bits message is.front next (after ∷ left) is.stands in
       of.rest message is.front next (after ∷ left) (next + own) rest is.is_sent is.stands (omega (arith, is.cut)) (own_start next own two.0 fits.0)
       (same_starts IsSent message (after ∷ left) sendings two.1 fits.1)

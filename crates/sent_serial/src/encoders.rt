@@ -5,6 +5,7 @@ ghost use Rattle.sent_serial.specs.Statuses.{HasTwoBits, start_bit, value_bit};
 ghost use Rattle.sent_serial.specs.Short.{short_reading};
 ghost use Rattle.sent_serial.specs.Enhanced.{enhanced_reading};
 ghost use Rattle.sent_serial.specs.Messages.{FitsMessage, IsMessageOf};
+ghost use Rattle.sent_serial.specs.SentStatuses.{enhanced_statuses, short_statuses, statuses_before};
 
 use crate::enhanced::checked;
 use crate::short::check_of;
@@ -49,6 +50,7 @@ fn spread(statuses: &mut [u8], values: u32, starts: u32)
 /// 0 clear.
 pub fn short_bits(id: u8, value: u8) -> [u8; 16]
     requires { id < 16 }
+    ensures statuses { result ≡ short_statuses id value }
     ensures read_alone { short_reading result ≡ SerialStep.Short id value ∷ [] }
     ensures two_bits { All HasTwoBits result }
 {
@@ -66,6 +68,7 @@ fn message(starts: u32, values: u32) -> [u8; 18]
     requires zero_13 { starts / 0x20 % 2 ≡ 0 }
     requires zero_18 { starts % 2 ≡ 0 }
     requires values { values < 0x1000 }
+    ensures statuses { result ≡ statuses_before (bits_of 12 values) (bits_of 12 starts) }
     ensures message { IsMessageOf result (RUN_STARTS + starts) values }
     ensures two_bits { All HasTwoBits result }
 {
@@ -81,6 +84,7 @@ fn message(starts: u32, values: u32) -> [u8; 18]
 /// 4,095.
 pub fn enhanced_bits(id: u8, value: u16, wide: bool) -> [u8; 18]
     requires { FitsMessage id value wide }
+    ensures statuses { result ≡ enhanced_statuses id value wide }
     ensures read_alone { enhanced_reading result ≡ SerialStep.Enhanced id value wide ∷ [] }
     ensures two_bits { All HasTwoBits result }
 {

@@ -11,6 +11,7 @@
 mod encoders;
 mod enhanced;
 mod meaning;
+mod sending;
 mod short;
 mod status;
 mod step;
@@ -20,5 +21,6 @@ mod tests;
 pub use encoders::{enhanced_bits, short_bits};
 pub use enhanced::EnhancedReader;
 pub use meaning::steps_have_meaning;
+pub use sending::{enhanced_messages_are_read, short_messages_are_read};
 pub use short::ShortReader;
 pub use step::SerialStep;
