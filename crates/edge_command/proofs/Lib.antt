@@ -9,6 +9,7 @@ pub mod TakeBytes
 pub mod LastLines
 pub mod Fronts
 pub mod Tellings
+pub mod Traces
 pub mod Runs
 pub mod Blocks
 pub mod Pulls

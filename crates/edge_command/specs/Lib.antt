@@ -5,5 +5,6 @@ pub mod Followed
 pub mod Runs
 pub mod Totals
 pub mod Ended
+pub mod Traces
 pub mod Counted
 pub mod Explained

@@ -5,6 +5,7 @@ ghost use Rattle.line_base.specs.declared.reason.Reason.TheVariants as reason;
 ghost use Rattle.receiver_core.specs.Setups.{setup_fault_of};
 ghost use Rattle.link_words.specs.Commands.{words_read, refused};
 ghost use Rattle.edge_command.specs.Ended.{Ended, decoding_in};
+ghost use Rattle.edge_command.specs.Traces.{ToldTraces};
 ghost use Rattle.edge_command.specs.Followed.{AllFollow, setups_of};
 ghost use Rattle.edge_command.specs.Totals.{IsOfRun};
 ghost use Rattle.edge_command.specs.Counted.{OutputCounted, SourceCounted};
@@ -141,6 +142,11 @@ pub fn run_plain<S: Source, K: Sink>(
     // Where source and sink tell their bytes: what was read and written, for each reason.
     ensures ended { IfOk (words_read (map string_bytes words.now)) (λ command. IfSome (S.left source.old)
         (λ bytes. Ended (decoding_in command) result.reason bytes (S.left source.new) (K.got out.old) (K.got out.new))) }
+
+    // Of each channel whose edges are an honest trace of some messages exactly the reports of these messages are
+    // told, from the first whole frame on, and of a trace that stopped earlier the first of them.
+    ensures tolerance { IfOk (words_read (map string_bytes words.now)) (λ command. IfSome (S.left source.old)
+        (λ bytes. ToldTraces (decoding_in command) result.reason bytes (K.got out.old) (K.got out.new))) }
 
     // A fault is answered exactly where it was counted, and none is passed over.
     ensures source { SourceCounted result.reason (S.faults source.old) (S.faults source.new) }

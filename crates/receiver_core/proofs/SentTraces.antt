@@ -17,10 +17,16 @@ use Rattle.sent_fast.specs.Layouts.{fast_of}
 use Rattle.sent_serial.specs.declared.step.SerialStep.{SerialStep}
 use Rattle.sent_serial.specs.declared.step.SerialStep.TheVariants as step
 use Rattle.sent_serial.specs.SentStatuses.{statuses_sent}
-use Rattle.sent_serial.specs.Sendings.{Sending, SentStatus, ended_by, sent_from, sent_statuses, told_at, messages_told}
+use Rattle.sent_serial.specs.Enhanced.{enhanced_reading}
+use Rattle.sent_serial.specs.Short.{short_reading}
+use Rattle.sent_serial.specs.Sendings.{IsEnhanced, IsShort, Sending, SentStatus, ended_by, sent_from, sent_statuses, statuses_in, told_at, messages_told}
 use Rattle.sent_serial.specs.Sendings.Sending as sending
 use Rattle.sent_serial.proofs.MessagesTold.{told-append}
+use Rattle.sent_serial.proofs.SentEnhanced.{enhanced-is_reading}
+use Rattle.sent_serial.proofs.SentParts.{part_reads}
+use Rattle.sent_serial.proofs.SentShort.{short-is_reading}
 use Rattle.sent_tolerance.specs.FromFirst.{Heard, heard_of, good_step}
+use Rattle.sent_tolerance.proofs.HeardTrains.{read_honest}
 use Rattle.sent_tolerance.proofs.Hearing.{heard_as, heard-map, heard-rest}
 use Rattle.receiver_core.specs.declared.message.Message.{Message}
 use Rattle.receiver_core.specs.declared.message.Message.TheVariants as message
@@ -57,9 +63,9 @@ turns-statuses m left (message.Down down ∷ messages) = turns-statuses m left m
 -- ---- what is read of the statuses
 -- of each front of these frames the serial messages that are read are those told
 abbrev ReadsFronts : Serial → List SentTurn → Type 0
-ReadsFronts form turns = (count : ℕ) → serial_reading form (map (λ (sent : SentStatus). sent.status) (take count (map status_sent turns))) ≡ messages_told 0 (take count (map status_sent turns))
+ReadsFronts form turns = (count : ℕ) → serial_reading form (statuses_in (take count (map status_sent turns))) ≡ messages_told 0 (take count (map status_sent turns))
 
-statuses-are : (turns : List SentTurn) → map (λ (sent : SentStatus). sent.status) (map status_sent turns) ≡ statuses_of (map (λ (turn : SentTurn). turn.frame) turns)
+statuses-are : (turns : List SentTurn) → statuses_in (map status_sent turns) ≡ statuses_of (map (λ (turn : SentTurn). turn.frame) turns)
 statuses-are [] = refl
 statuses-are (turn ∷ turns) = ap (λ l. turn.frame.status ∷ l) (statuses-are turns)
 
@@ -69,7 +75,7 @@ front-read form front rest reads =
     let parts : map status_sent (front ++ rest) ≡ map status_sent front ++ map status_sent rest = map-append status_sent front rest in
     let first : take (length front) (map status_sent (front ++ rest)) ≡ map status_sent front =
     ap (take (length front)) parts ∙ take_at (map status_sent front) (map status_sent rest) (length front) (sym (length-map front status_sent)) in
-    ap (serial_reading form) (sym (statuses-are front) ∙ ap (map (λ (sent : SentStatus). sent.status)) (sym first))
+    ap (serial_reading form) (sym (statuses-are front) ∙ ap statuses_in (sym first))
     ∙ reads (length front)
     ∙ ap (messages_told 0) first
 
@@ -119,7 +125,7 @@ heard-report layout form front (h ∷ hs) reads =
 -- the reports of what is read of frames of messages that are heard
 pub sent-traces : (s : Settings) (layout : Layout) (form : Serial) (messages : List Message) (edges : List NumberedEdge)
     → sent_reading s edges ≡ map good_step (heard_of s (map (λ (turn : SentTurn). turn.frame) (sent_turns messages)) edges)
-    → ((from count : ℕ) → serial_reading form (map (λ (sent : SentStatus). sent.status) (take count (drop from (sent_statuses (flat_map sending_in messages))))) ≡ messages_told 0 (take count (drop from (sent_statuses (flat_map sending_in messages)))))
+    → ((from count : ℕ) → serial_reading form (statuses_in (take count (drop from (sent_statuses (flat_map sending_in messages))))) ≡ messages_told 0 (take count (drop from (sent_statuses (flat_map sending_in messages)))))
     → sent_reports layout form [] (sent_reading s edges) ≡ heard_reports layout None 0 (heard_of s (sent_turns messages) edges)
 sent-traces s layout form messages edges reads told =
     let turns = sent_turns messages in
@@ -128,7 +134,7 @@ sent-traces s layout form messages edges reads told =
     let statuses : map status_sent (map (λ (h : Heard SentTurn). h.sent) heard) ≡ drop rest.0 (sent_statuses (flat_map sending_in messages)) =
     ap (map status_sent) rest.1 ∙ sym (drop-map status_sent rest.0 turns) ∙ ap (drop rest.0) (turns-statuses step.Nothing [] messages) in
     ap (sent_reports layout form []) (reads ∙ ap (map good_step) (heard-map (λ (turn : SentTurn). turn.frame) s turns edges))
-    ∙ heard-report layout form [] heard (λ count. subst (λ sents. serial_reading form (map (λ (sent : SentStatus). sent.status) (take count sents)) ≡ messages_told 0 (take count sents)) (sym statuses) (told rest.0 count))
+    ∙ heard-report layout form [] heard (λ count. subst (λ sents. serial_reading form (statuses_in (take count sents)) ≡ messages_told 0 (take count sents)) (sym statuses) (told rest.0 count))
 
 -- ---- the statuses of each form of serial messages
 none-of : (count before : ℕ) → messages_told before (take count []) ≡ []
@@ -148,13 +154,13 @@ frames-none before count from (sending.Message message ∷ sendings) frames = ab
 
 -- what is read of the statuses of messages of a form
 statuses-read : (form : Serial) (sendings : List Sending) → FitSerial form sendings → (from count : ℕ)
-    → serial_reading form (map (λ (sent : SentStatus). sent.status) (take count (drop from (sent_statuses sendings)))) ≡ messages_told 0 (take count (drop from (sent_statuses sendings)))
+    → serial_reading form (statuses_in (take count (drop from (sent_statuses sendings)))) ≡ messages_told 0 (take count (drop from (sent_statuses sendings)))
 statuses-read serial.Absent sendings fits from count = sym (frames-none 0 count from sendings fits)
-statuses-read serial.Short sendings fits from count = short-read sendings from count fits
-statuses-read serial.Enhanced sendings fits from count = enhanced-read sendings from count fits
+statuses-read serial.Short sendings fits from count = part_reads IsShort short_reading short-is_reading sendings from count fits
+statuses-read serial.Enhanced sendings fits from count = part_reads IsEnhanced enhanced_reading enhanced-is_reading sendings from count fits
 
 pub sent-trace : (s : Settings) (layout : Layout) (form : Serial) (messages : List Message) (edges : List NumberedEdge) → IsSentTrace s form messages edges
     → sent_reports layout form [] (sent_reading s edges) ≡ sent_from_first s layout messages edges
 sent-trace s layout form messages edges trace =
-    sent-traces s layout form messages edges (honest-reads s (map (λ (turn : SentTurn). turn.frame) (sent_turns messages)) edges trace.honest)
+    sent-traces s layout form messages edges (read_honest s (map (λ (turn : SentTurn). turn.frame) (sent_turns messages)) edges trace.honest)
     (statuses-read form (flat_map sending_in messages) trace.serial_fits)

@@ -51,3 +51,23 @@ honest-front setup messages edges more honest =
     let whole = map item.Edge (edges ++ more) in
     let front = subst (λ items. IsFrontOf (so_far setup (map item.Edge edges)) (so_far setup items)) (sym (map-append item.Edge edges more)) (so_far-front setup (map item.Edge edges) (map item.Edge more)) in
     subst (λ reports. IsFrontOf (so_far setup (map item.Edge edges)) reports) (honest-final setup messages (edges ++ more) honest) (IsFrontOf-trans front (final-front setup whole))
+
+-- ---- the receiver
+-- with the end the reports are those of the messages
+pub tolerance-end : (setup : ChannelSetup) (messages : List Message) (edges : List Edge) (taken : Item) (reports : List Report)
+    → so_far setup (map item.Edge edges ++ taken ∷ []) ≡ so_far setup (map item.Edge edges) ++ reports → taken ≡ item.End → IsHonest setup messages edges
+    → so_far setup (map item.Edge edges) ++ reports ≡ from_first setup messages edges
+unfolding final
+tolerance-end setup messages edges taken reports grows ends honest =
+    sym grows ∙ ap (λ t. so_far setup (map item.Edge edges ++ t ∷ [])) ends ∙ honest-final setup messages edges honest
+
+-- before it they are the first of these
+pub tolerance-edge : (setup : ChannelSetup) (messages : List Message) (edges more : List Edge) (edge : Edge) (taken : Item) (reports : List Report)
+    → so_far setup (map item.Edge edges ++ taken ∷ []) ≡ so_far setup (map item.Edge edges) ++ reports → taken ≡ item.Edge edge → IsHonest setup messages (edges ++ edge ∷ more)
+    → IsFrontOf (so_far setup (map item.Edge edges) ++ reports) (from_first setup messages (edges ++ edge ∷ more))
+tolerance-edge setup messages edges more edge taken reports grows is honest =
+    let longer : edges ++ edge ∷ more ≡ (edges ++ edge ∷ []) ++ more = sym (append_assoc edges (edge ∷ []) more) in
+    let items : map item.Edge (edges ++ edge ∷ []) ≡ map item.Edge edges ++ taken ∷ [] = map-append item.Edge edges (edge ∷ []) ∙ ap (λ t. map item.Edge edges ++ t ∷ []) (sym is) in
+    let front = honest-front setup messages (edges ++ edge ∷ []) more (subst (λ l. IsHonest setup messages l) longer honest) in
+    subst (λ l. IsFrontOf l (from_first setup messages (edges ++ edge ∷ more))) (ap (so_far setup) items ∙ grows)
+    (subst (λ l. IsFrontOf (so_far setup (map item.Edge (edges ++ edge ∷ []))) (from_first setup messages l)) (sym longer) front)

@@ -1,11 +1,15 @@
 //! One channel's receiver.
-ghost use Rattle.std.specs.Prelude.{◌≡◌, ◌^◌, ◌<◌, ◌≤◌, ◌++◌, [], ◌∷◌, List, ℕ, Option, None};
+ghost use Rattle.std.specs.Prelude.{◌≡◌, ◌^◌, ◌<◌, ◌≤◌, ◌++◌, [], ◌∷◌, List, ℕ, Option, None, map};
 ghost use Rattle.line_base.specs.Edges.{NumberedEdge};
 ghost use Rattle.line_base.specs.declared.edge.Item.{Item};
 ghost use Rattle.receiver_core.specs.declared.setup.ChannelSetup.{ChannelSetup};
 ghost use Rattle.receiver_core.specs.Setups.{setup_fault_of};
 ghost use Rattle.receiver_core.specs.Channels.{edges_counted, so_far};
 ghost use Rattle.receiver_core.specs.OpenStretches.{open_with, resumed};
+ghost use Rattle.receiver_core.specs.declared.message.Message.{Message};
+ghost use Rattle.receiver_core.specs.Traces.{IsHonest, from_first};
+ghost use Rattle.line_base.specs.Streams.{IsFrontOf};
+ghost use Rattle.line_base.specs.declared.edge.Edge.{Edge};
 
 use crate::psi5_channel::Psi5Channel;
 use crate::report::{Report, What};
@@ -156,12 +160,18 @@ impl Receiver {
     }
 
     /// Takes the next item of the channel, and gives the reports that come with it. An edge is on one of
-    /// the channel's lines, at a time of at most 10^15 ns; edges, lost ones counted, are at most 2^60.
+    /// the channel's lines, at a time of at most 10^15 ns; edges, lost ones counted, are at most 2^60. Where the
+    /// edges are an honest trace of some messages, the reports are exactly those of the messages, from the first
+    /// whole frame on, once the end is taken, and before it the first of these.
     pub fn push(&mut self, item: Item) -> ArrayVec<Report, 8>
         requires { (setup : ChannelSetup) × (seen : List Item) × StandsFor setup self.old seen × IsTakeable (edges_counted seen) item }
         ensures stands { (setup : ChannelSetup) (seen : List Item) → StandsFor setup self.old seen → StandsFor setup self.new (seen ++ item ∷ []) }
         ensures grows { (setup : ChannelSetup) (seen : List Item) → StandsFor setup self.old seen
             → so_far setup (seen ++ item ∷ []) ≡ so_far setup seen ++ result.items }
+        ensures tolerance { (setup : ChannelSetup) (messages : List Message) (edges : List Edge) → StandsFor setup self.old (map Item.Edge edges) → item ≡ Item.End
+            → IsHonest setup messages edges → so_far setup (map Item.Edge edges) ++ result.items ≡ from_first setup messages edges }
+        ensures tolerance_so_far { (setup : ChannelSetup) (messages : List Message) (edges more : List Edge) (edge : Edge) → StandsFor setup self.old (map Item.Edge edges) → item ≡ Item.Edge edge
+            → IsHonest setup messages (edges ++ edge ∷ more) → IsFrontOf (so_far setup (map Item.Edge edges) ++ result.items) (from_first setup messages (edges ++ edge ∷ more)) }
     {
         let mut reports = ArrayVec::new();
         self.push_into(item, &mut reports);
