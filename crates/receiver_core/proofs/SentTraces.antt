@@ -20,7 +20,7 @@ use Rattle.sent_serial.specs.SentStatuses.{statuses_sent}
 use Rattle.sent_serial.specs.Enhanced.{enhanced_reading}
 use Rattle.sent_serial.specs.Short.{short_reading}
 use Rattle.sent_serial.specs.Sendings.{IsEnhanced, IsShort, Sending, SentStatus, ended_by, sent_from, sent_statuses, statuses_in, told_at, messages_told}
-use Rattle.sent_serial.specs.Sendings.Sending as sending
+use Rattle.sent_serial.specs.Sendings.Sending.{Frame as FrameSending, Message as MessageSending}
 use Rattle.sent_serial.proofs.MessagesTold.{told-append}
 use Rattle.sent_serial.proofs.SentEnhanced.{enhanced-is_reading}
 use Rattle.sent_serial.proofs.SentParts.{part_reads}
@@ -147,10 +147,10 @@ frames-none : (before count from : ℕ) (sendings : List Sending) → All IsFram
 unfolding messages_told sent_from
 frames-none before count zero [] frames = none-of count before
 frames-none before count (suc from) [] frames = none-of count before
-frames-none before zero zero (sending.Frame own ∷ sendings) frames = refl
-frames-none before (suc count) zero (sending.Frame own ∷ sendings) frames = frames-none (suc before) count zero sendings (All-tail IsFrame (sending.Frame own) sendings frames)
-frames-none before count (suc from) (sending.Frame own ∷ sendings) frames = frames-none before count from sendings (All-tail IsFrame (sending.Frame own) sendings frames)
-frames-none before count from (sending.Message message ∷ sendings) frames = absurd (All-head IsFrame (sending.Message message) sendings frames)
+frames-none before zero zero (FrameSending own ∷ sendings) frames = refl
+frames-none before (suc count) zero (FrameSending own ∷ sendings) frames = frames-none (suc before) count zero sendings (All-tail IsFrame (FrameSending own) sendings frames)
+frames-none before count (suc from) (FrameSending own ∷ sendings) frames = frames-none before count from sendings (All-tail IsFrame (FrameSending own) sendings frames)
+frames-none before count from (MessageSending message ∷ sendings) frames = absurd (All-head IsFrame (MessageSending message) sendings frames)
 
 -- what is read of the statuses of messages of a form
 statuses-read : (form : Serial) (sendings : List Sending) → FitSerial form sendings → (from count : ℕ)

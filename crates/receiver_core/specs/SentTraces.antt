@@ -8,7 +8,7 @@ use Rattle.sent_fast.specs.Layouts.{fast_of}
 use Rattle.sent_serial.specs.declared.step.SerialStep.{SerialStep}
 use Rattle.sent_serial.specs.declared.step.SerialStep.TheVariants as step
 use Rattle.sent_serial.specs.Sendings.{Sending, SentStatus, FitsFrom, IsShort, IsEnhanced, sent_statuses, told_at}
-use Rattle.sent_serial.specs.Sendings.Sending as sending
+use Rattle.sent_serial.specs.Sendings.Sending.{Frame as FrameSending, Message as MessageSending}
 use Rattle.sent_tolerance.specs.Traces.{IsHonest}
 use Rattle.sent_tolerance.specs.FromFirst.{Heard, heard_of}
 use Rattle.receiver_core.specs.declared.message.Message.{Message}
@@ -34,15 +34,15 @@ frame_in other = []
 
 -- what a message sends in the status nibbles
 abbrev pub sending_in : Message → List Sending
-sending_in (message.Frame frame) = sending.Frame frame.status ∷ []
-sending_in (message.Short id value) = sending.Message (step.Short id value) ∷ []
-sending_in (message.Enhanced id value wide) = sending.Message (step.Enhanced id value wide) ∷ []
+sending_in (message.Frame frame) = FrameSending frame.status ∷ []
+sending_in (message.Short id value) = MessageSending (step.Short id value) ∷ []
+sending_in (message.Enhanced id value wide) = MessageSending (step.Enhanced id value wide) ∷ []
 sending_in other = []
 
 -- what is sent is a frame
 abbrev pub IsFrame : Sending → Type 0
-IsFrame (sending.Frame status) = Unit {0}
-IsFrame (sending.Message message) = ⊥
+IsFrame (FrameSending status) = Unit {0}
+IsFrame (MessageSending message) = ⊥
 
 -- a channel with these serial messages may send this in its status nibbles: frames alone where it has none; else frames whose own status is below 4, and messages of this form, none of which begins before the one before it has ended
 abbrev pub FitSerial : Serial → List Sending → Type 0
