@@ -5,3 +5,4 @@ pub mod PassedPulses
 pub mod RecordedFalls
 pub mod HeardTrains
 pub mod NominalFrames
+pub mod WorkedTrace
