@@ -5,4 +5,5 @@ pub mod PassedPulses
 pub mod RecordedFalls
 pub mod HeardTrains
 pub mod NominalFrames
+pub mod WorkedTrace
 pub mod Hearing

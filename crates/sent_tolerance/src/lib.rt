@@ -8,9 +8,11 @@
 
 mod bounds;
 mod honest;
+mod worked;
 
 pub use bounds::pauses_end_at_12_and_768_ticks;
 pub use honest::{
     honest_frames_are_read, jittered_frames_are_honest, nominal_frames_are_honest,
     trains_have_honest_traces,
 };
+pub use worked::a_worked_trace_is_read;
