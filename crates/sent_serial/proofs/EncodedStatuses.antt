@@ -2,13 +2,13 @@
 --     short-encoded      of a short one
 --     before-encoded      of an enhanced one, from the bits of its frames 7 to 18
 --     wide-encoded, narrow-encoded      from its fields
-use Rattle.std.proofs.Common.{◌≡◌, ℕ, ◌+◌, ◌*◌, ◌/◌, ◌%◌, ◌<◌, List, [], ◌∷◌, ◌++◌, true, false, map, replicate, refl, sym, ap, ap₂, ◌∙◌, arith}
+use Rattle.std.proofs.Common.{◌≡◌, ℕ, ◌+◌, ◌*◌, ◌/◌, ◌%◌, ◌<◌, List, [], ◌∷◌, ◌++◌, true, false, map, refl, ap, ap₂, ◌∙◌}
 use Rattle.std.specs.List.{All}
 use Rattle.link_math.specs.Checks.{crc4_of, crc6_of}
 use Rattle.link_math.specs.Division.{bits_of}
 use Rattle.link_math.proofs.BitLists.{bits_of-mod}
 use Rattle.sent_serial.specs.Statuses.{HasTwoBits, merged, start_bit, value_bit}
-use Rattle.sent_serial.specs.SentStatuses.{enhanced_statuses, later_starts, short_starts, short_statuses, short_values, statuses_before, statuses_of}
+use Rattle.sent_serial.specs.SentStatuses.{enhanced_statuses, short_starts, short_statuses, statuses_before, statuses_of}
 use Rattle.sent_serial.proofs.SentBits.{statuses-from}
 use Rattle.sent_serial.proofs.SentFields.{front-starts, front-values, lower-starts, short_values-number, start_bits-narrow, start_bits-wide}
 

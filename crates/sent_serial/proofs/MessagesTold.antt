@@ -1,7 +1,7 @@
 -- Which messages are told of what is sent.
 --     told-append      of one frame more
 --     told_here, not_told      at the frame that ends a message, by whether its first frame is there
-use Rattle.std.proofs.Common.{◌≡◌, ℕ, suc, ◌+◌, ◌<◌, ◌≤◌, List, [], ◌∷◌, ◌++◌, Some, nat_le, true, false, length, refl, ap, ap₂, ◌∙◌, append-nil, append_assoc, sym, arith}
+use Rattle.std.proofs.Common.{◌≡◌, ℕ, suc, ◌+◌, ◌<◌, ◌≤◌, List, [], ◌∷◌, ◌++◌, Some, nat_le, true, false, length, refl, ap, ◌∙◌, append-nil, append_assoc, sym, arith}
 use Rattle.std.proofs.lemmas.Bool.Decides.{nat_tests}
 use Rattle.sent_serial.specs.declared.step.SerialStep.{SerialStep}
 use Rattle.sent_serial.specs.SentStatuses.{statuses_sent}

@@ -14,7 +14,7 @@ use Rattle.line_base.specs.Readings.{ended}
 use Rattle.sent_serial.specs.declared.step.SerialStep.{SerialStep}
 use Rattle.sent_serial.specs.declared.step.SerialStep.TheVariants as step
 use Rattle.sent_serial.specs.Statuses.{merged, start_bit, value_bit, set_before}
-use Rattle.sent_serial.specs.Enhanced.{begun_at, enhanced_message, enhanced_reading}
+use Rattle.sent_serial.specs.Enhanced.{enhanced_message, enhanced_reading}
 use Rattle.sent_serial.specs.Messages.{IsMessageOf}
 use Rattle.sent_serial.specs.SentStatuses.{enhanced_statuses, later_starts, statuses_before, statuses_sent}
 use Rattle.sent_serial.specs.Sendings.{IsEnhanced}
@@ -22,7 +22,7 @@ use Rattle.sent_serial.proofs.EnhancedSteps.{at-begun, at-run, at-skipped, begun
 use Rattle.sent_serial.proofs.KeptBits.{length-map}
 use Rattle.sent_serial.proofs.Prefixes.{enhanced-none}
 use Rattle.sent_serial.proofs.SentBits.{SameBits, SameStarts, front_at, same_at, same_length, start_bits-of, value_bits-of}
-use Rattle.sent_serial.proofs.SentFields.{front-starts, front-values, later_starts-length, lower-starts, start_bits-narrow, start_bits-wide}
+use Rattle.sent_serial.proofs.SentFields.{front-starts, front-values, lower-starts, start_bits-narrow, start_bits-wide}
 use Rattle.sent_serial.proofs.SentMessages.{enhanced-sent, narrow-said, set_from, wide-said}
 use Rattle.sent_serial.proofs.SentParts.{IsReading, StandsIn}
 use Rattle.sent_serial.proofs.StartBits.{all_set-later, no_set, set_before-le, set_here, set_none, set-stays}

@@ -68,9 +68,9 @@ starts-number wide first second =
     let end_is : number_of end ≡ second % 2 ^ 4 * 2 ^ 1 + 0 = field_before 4 second (false ∷ []) 1 0 refl number_of-clear in
     let later : number_of (false ∷ end) ≡ 0 * 2 ^ 5 + (second % 2 ^ 4 * 2 ^ 1 + 0) = bit_before false end 5 (second % 2 ^ 4 * 2 ^ 1 + 0) end_long end_is in
     let middle_is : number_of middle ≡ first % 2 ^ 4 * 2 ^ 6 + (0 * 2 ^ 5 + (second % 2 ^ 4 * 2 ^ 1 + 0)) =
-        field_before 4 first (false ∷ end) 6 (0 * 2 ^ 5 + (second % 2 ^ 4 * 2 ^ 1 + 0)) (omega arith) later in
+    field_before 4 first (false ∷ end) 6 (0 * 2 ^ 5 + (second % 2 ^ 4 * 2 ^ 1 + 0)) (omega arith) later in
     let formed : number_of (wide ∷ middle) ≡ (if wide then 1 else 0) * 2 ^ 10 + (first % 2 ^ 4 * 2 ^ 6 + (0 * 2 ^ 5 + (second % 2 ^ 4 * 2 ^ 1 + 0))) =
-        bit_before wide middle 10 (first % 2 ^ 4 * 2 ^ 6 + (0 * 2 ^ 5 + (second % 2 ^ 4 * 2 ^ 1 + 0))) middle_long middle_is in
+    bit_before wide middle 10 (first % 2 ^ 4 * 2 ^ 6 + (0 * 2 ^ 5 + (second % 2 ^ 4 * 2 ^ 1 + 0))) middle_long middle_is in
     bit_before false (wide ∷ middle) 11 _ (omega arith) formed ∙ omega arith
 
 pub later_starts-length : (id value : ℕ) (wide : Bool) → length (later_starts id value wide) ≡ 12

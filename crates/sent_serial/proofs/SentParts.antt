@@ -3,7 +3,7 @@
 --     on_its_way      behind the first frames of a message
 --     lost      behind frames that aren't there
 --     part_reads      of any part
-use Rattle.std.proofs.Common.{◌≡◌, ℕ, zero, suc, ◌+◌, ◌<◌, ◌≤◌, List, [], ◌∷◌, ◌++◌, None, true, false, length, map, take, drop, refl, sym, ap, ap₂, ◌∙◌, append-nil, append_assoc, length-append, arith}
+use Rattle.std.proofs.Common.{◌≡◌, ℕ, zero, suc, ◌+◌, ◌<◌, ◌≤◌, List, [], ◌∷◌, ◌++◌, None, false, length, take, drop, refl, sym, ap, ap₂, ◌∙◌, append-nil, append_assoc, length-append, arith}
 use Rattle.std.specs.List.{All}
 use Rattle.std.proofs.lemmas.List.{drop-take, map-append}
 use Rattle.std.proofs.lemmas.List.Elements.{All-head, All-tail}
@@ -13,7 +13,6 @@ use Rattle.sent_serial.specs.Statuses.{HasTwoBits, start_bit, value_bit}
 use Rattle.sent_serial.specs.SentStatuses.{statuses_sent}
 use Rattle.sent_serial.specs.Sendings.{Sending, SentStatus, statuses_in, ended_by, sent_from, sent_statuses, FitsFrom, messages_told}
 use Rattle.sent_serial.specs.Sendings.Sending.{Frame, Message}
-use Rattle.sent_serial.proofs.KeptBits.{length-map}
 use Rattle.sent_serial.proofs.MessagesTold.{not_told, told_here}
 use Rattle.sent_serial.proofs.SentBits.{SameBits, SameStarts, own_clear, own_start, own_value, two_bits-sent}
 
@@ -163,7 +162,6 @@ fits_up_to IsSent (suc count) left (Message message ∷ sendings) fits = (fits.0
 
 -- ---- what is read
 module _ (IsSent : SerialStep → Type 0) (reading : List ℕ → List SerialStep) (of : IsReading IsSent reading) where
-
   -- all that is told is read of what is sent from here on, behind what was kept
   abbrev Reads : List ℕ → ℕ → List SentStatus → Type 0
   Reads kept before sent = reading (kept ++ statuses_in sent) ≡ messages_told before sent
@@ -239,5 +237,5 @@ module _ (IsSent : SerialStep → Type 0) (reading : List ℕ → List SerialSte
   pub part_reads : (sendings : List Sending) (cut count : ℕ) → FitsFrom IsSent [] sendings → Reads [] 0 (take count (drop cut (sent_statuses sendings)))
   part_reads sendings cut count fits =
       let part : take count (drop cut (sent_statuses sendings)) ≡ drop cut (sent_from step.Nothing [] (up_to (cut + count) sendings)) =
-          sym (drop-take cut count (sent_statuses sendings)) ∙ ap (drop cut) (sent_up_to (cut + count) step.Nothing [] sendings) in
+      sym (drop-take cut count (sent_statuses sendings)) ∙ ap (drop cut) (sent_up_to (cut + count) step.Nothing [] sendings) in
       rw part (behind_cut cut step.Nothing [] (up_to (cut + count) sendings) tt (fits_up_to IsSent (cut + count) [] sendings fits))

@@ -1,12 +1,11 @@
 -- Short messages that are sent, as they are read.
 --     short-said      what a whole one says
 --     short-is_reading      what is read of a part of one
-use Rattle.std.proofs.Common.{◌≡◌, ℕ, zero, suc, ◌+◌, ◌*◌, ◌/◌, ◌%◌, ◌<◌, ◌≤◌, List, [], ◌∷◌, ◌++◌, true, false, get_or, map, take, length, replicate, refl, sym, ap, ap₂, ◌∙◌, length-append, arith}
+use Rattle.std.proofs.Common.{◌≡◌, ℕ, zero, suc, ◌+◌, ◌*◌, ◌/◌, ◌%◌, ◌<◌, ◌≤◌, List, [], ◌∷◌, ◌++◌, true, false, get_or, map, take, length, refl, sym, ap, ap₂, ◌∙◌, length-append, arith}
 use Rattle.std.proofs.lemmas.List.{get_or-append-add, get_or-replicate, take-append-le}
 use Rattle.std.proofs.Math.ListN.{get_or-map}
 use Rattle.std.proofs.Math.Seq.{take-length}
 use Rattle.link_math.specs.Checks.{crc4_of}
-use Rattle.link_math.specs.Division.{bits_of}
 use Rattle.link_math.proofs.Nibbles.{crc_small}
 use Rattle.line_base.specs.Readings.{ended}
 use Rattle.line_base.proofs.Standing.{read-told}
@@ -19,7 +18,7 @@ use Rattle.sent_serial.specs.SentStatuses.{short_starts, short_statuses, short_v
 use Rattle.sent_serial.specs.Sendings.{IsShort}
 use Rattle.sent_serial.proofs.KeptBits.{length-map}
 use Rattle.sent_serial.proofs.Prefixes.{short-none}
-use Rattle.sent_serial.proofs.SentBits.{SameBits, SameStarts, front_at, same_at, same_length, start_bits-of, value_bits-of}
+use Rattle.sent_serial.proofs.SentBits.{SameBits, front_at, same_at, same_length, start_bits-of, value_bits-of}
 use Rattle.sent_serial.proofs.SentFields.{short_values-length, short_values-number}
 use Rattle.sent_serial.proofs.SentParts.{IsReading, StandsIn}
 use Rattle.sent_serial.proofs.ShortMessages.{message-good}

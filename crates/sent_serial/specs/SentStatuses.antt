@@ -29,7 +29,7 @@ short_starts = true ∷ replicate 15 false
 unfoldable pub short_statuses : ℕ → ℕ → List ℕ
 short_statuses id value = statuses_of (short_values id value) short_starts
 
--- the start bits of frames 7 to 18 of an enhanced message, one frame in each line but the fourth and the sixth: 7 is clear; 8 is the form bit; 9 to 12 are the 4 bits of the id where the value is wide, else the upper 4 of its 8; 13 is clear; 14 to 17 are the upper 4 bits of a wide value, else the lower 4 of the id; 18 is clear
+-- the start bits of frames 7 to 18 of an enhanced message: 7, 13 and 18 are clear; 8 is the form bit; 9 to 12 are the 4 bits of the id where the value is wide, else the upper 4 of its 8; 14 to 17 are the upper 4 bits of a wide value, else the lower 4 of the id
 unfoldable pub later_starts : ℕ → ℕ → Bool → List Bool
 later_starts id value wide =
     (false ∷ [])
