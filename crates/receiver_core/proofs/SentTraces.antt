@@ -74,7 +74,7 @@ front-read : (form : Serial) (front rest : List SentTurn) → ReadsFronts form (
 front-read form front rest reads =
     let parts : map status_sent (front ++ rest) ≡ map status_sent front ++ map status_sent rest = map-append status_sent front rest in
     let first : take (length front) (map status_sent (front ++ rest)) ≡ map status_sent front =
-    ap (take (length front)) parts ∙ take_at (map status_sent front) (map status_sent rest) (length front) (sym (length-map front status_sent)) in
+    ap (take (length front)) parts ∙ take_at (map status_sent front) (map status_sent rest) (length front) (length-map front status_sent) in
     ap (serial_reading form) (sym (statuses-are front) ∙ ap statuses_in (sym first))
     ∙ reads (length front)
     ∙ ap (messages_told 0) first

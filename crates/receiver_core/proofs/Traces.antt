@@ -24,7 +24,7 @@ edges-end : (setup : ChannelSetup) (number : ℕ) (stretch : List NumberedEdge) 
 unfolding reports_from numbered
 edges-end setup number stretch [] = ap (λ l. stretch_reports setup l ++ end_reports setup l) (sym (append-nil stretch))
 edges-end setup number stretch (edge ∷ edges) =
-    let first = record { number = number; edge = edge } in
+    let first : NumberedEdge = record { number = number; edge = edge } in
     edges-end setup (number + 1) (stretch ++ first ∷ []) edges
     ∙ ap (λ l. stretch_reports setup l ++ end_reports setup l) (append_assoc stretch (first ∷ []) (numbered (number + 1) edges))
 
