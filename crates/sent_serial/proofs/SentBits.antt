@@ -12,7 +12,7 @@ use Rattle.sent_serial.specs.declared.step.SerialStep.{SerialStep}
 use Rattle.sent_serial.specs.declared.step.SerialStep.TheVariants as step
 use Rattle.sent_serial.specs.Statuses.{HasTwoBits, start_bit, value_bit}
 use Rattle.sent_serial.proofs.KeptBits.{length-map}
-use Rattle.sent_serial.specs.SentStatuses.{status_of, statuses_of, short_statuses, statuses_before, enhanced_statuses, statuses_sent}
+use Rattle.sent_serial.specs.SentStatuses.{status_of, statuses_of, short_statuses, statuses_with_check, enhanced_statuses, statuses_sent}
 
 -- these have the same value bits and the same start bits
 pub record SameBits (statuses others : List ℕ) : Type 0 where
@@ -39,7 +39,7 @@ statuses-two_bits (value ∷ values) [] = All-nil HasTwoBits
 statuses-two_bits (value ∷ values) (start ∷ starts) = All-cons HasTwoBits (status_of value start) (statuses_of values starts) (status-two_bits value start) (statuses-two_bits values starts)
 
 pub two_bits-sent : (message : SerialStep) → All HasTwoBits (statuses_sent message)
-unfolding statuses_sent short_statuses enhanced_statuses statuses_before
+unfolding statuses_sent short_statuses enhanced_statuses statuses_with_check
 two_bits-sent step.Nothing = All-nil HasTwoBits
 two_bits-sent (step.Short id value) = statuses-two_bits _ _
 two_bits-sent (step.Enhanced id value wide) = statuses-two_bits _ _

@@ -16,7 +16,7 @@ use Rattle.sent_serial.specs.declared.step.SerialStep.TheVariants as step
 use Rattle.sent_serial.specs.Statuses.{merged, start_bit, value_bit, set_before}
 use Rattle.sent_serial.specs.Enhanced.{enhanced_message, enhanced_reading}
 use Rattle.sent_serial.specs.Messages.{IsMessageOf}
-use Rattle.sent_serial.specs.SentStatuses.{enhanced_statuses, later_starts, statuses_before, statuses_sent}
+use Rattle.sent_serial.specs.SentStatuses.{enhanced_statuses, later_starts, statuses_with_check, statuses_sent}
 use Rattle.sent_serial.specs.Sendings.{IsEnhanced}
 use Rattle.sent_serial.proofs.EnhancedSteps.{at-begun, at-run, at-skipped, begun-early, begun-late, begun-whole, reads-ended, reads-skipped, reads-waiting}
 use Rattle.sent_serial.proofs.KeptBits.{length-map}
@@ -37,11 +37,11 @@ unfolding bits_of later_starts
 same-many id value wide = refl
 
 enhanced-values : (id value : ℕ) (wide : Bool) → map value_bit (enhanced_statuses id value wide) ≡ bits_of 6 (check_of id value wide) ++ bits_of 12 value
-unfolding enhanced_statuses statuses_before
+unfolding enhanced_statuses statuses_with_check
 enhanced-values id value wide = value_bits-of (bits_of 6 (check_of id value wide) ++ bits_of 12 value) (replicate 6 true ++ later_starts id value wide) (same-many id value wide)
 
 enhanced-starts : (id value : ℕ) (wide : Bool) → map start_bit (enhanced_statuses id value wide) ≡ replicate 6 true ++ later_starts id value wide
-unfolding enhanced_statuses statuses_before
+unfolding enhanced_statuses statuses_with_check
 enhanced-starts id value wide = start_bits-of (bits_of 6 (check_of id value wide) ++ bits_of 12 value) (replicate 6 true ++ later_starts id value wide) (same-many id value wide)
 
 -- the start bits that are the same in all messages

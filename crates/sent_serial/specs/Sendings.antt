@@ -1,4 +1,4 @@
--- What a sensor sends in the status nibbles of its frames (SAE J2716), and which serial messages are told of a part of them; this project's own.
+-- What a sensor sends in the status nibbles of its frames (SAE J2716). Which messages are told of a part of it is this project's own.
 use Rattle.std.specs.Prelude.{◌≡◌, ℕ, suc, ◌+◌, ◌<◌, nat_le, true, false, Option, Some, None, List, [], ◌∷◌, ◌++◌, length, map, drop, if◌then◌else◌}
 use Rattle.sent_serial.specs.declared.step.SerialStep.{SerialStep}
 use Rattle.sent_serial.specs.declared.step.SerialStep.TheVariants as step

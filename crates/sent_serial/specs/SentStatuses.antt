@@ -39,13 +39,13 @@ later_starts id value wide =
     ++ bits_of 4 (if wide then value / 4096 else id)
     ++ (false ∷ [])
 
--- the eighteen statuses of an enhanced message, from the value bits and the start bits of its frames 7 to 18: the start bits of frames 1 to 6 are set, and their value bits are the 6 bits of the CRC, which runs over the value bit and then the start bit of each later frame
-unfoldable pub statuses_before : List Bool → List Bool → List ℕ
-statuses_before values starts = statuses_of (bits_of 6 (crc6_of (merged values starts)) ++ values) (replicate 6 true ++ starts)
+-- the eighteen statuses of an enhanced message with these value bits and start bits in its frames 7 to 18: the start bits of frames 1 to 6 are set, and their value bits are the 6 bits of the CRC, which runs over the value bit and then the start bit of each later frame
+unfoldable pub statuses_with_check : List Bool → List Bool → List ℕ
+statuses_with_check values starts = statuses_of (bits_of 6 (crc6_of (merged values starts)) ++ values) (replicate 6 true ++ starts)
 
 -- the eighteen statuses of the enhanced message of this id and this value: the value bits of frames 7 to 18 are the lowest 12 bits of the value
 unfoldable pub enhanced_statuses : ℕ → ℕ → Bool → List ℕ
-enhanced_statuses id value wide = statuses_before (bits_of 12 value) (later_starts id value wide)
+enhanced_statuses id value wide = statuses_with_check (bits_of 12 value) (later_starts id value wide)
 
 -- the statuses of a serial message
 unfoldable pub statuses_sent : SerialStep → List ℕ

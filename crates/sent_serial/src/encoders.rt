@@ -5,7 +5,7 @@ ghost use Rattle.sent_serial.specs.Statuses.{HasTwoBits, start_bit, value_bit};
 ghost use Rattle.sent_serial.specs.Short.{short_reading};
 ghost use Rattle.sent_serial.specs.Enhanced.{enhanced_reading};
 ghost use Rattle.sent_serial.specs.Messages.{FitsMessage, IsMessageOf};
-ghost use Rattle.sent_serial.specs.SentStatuses.{enhanced_statuses, short_statuses, statuses_before};
+ghost use Rattle.sent_serial.specs.SentStatuses.{enhanced_statuses, short_statuses, statuses_with_check};
 
 use crate::enhanced::checked;
 use crate::short::check_of;
@@ -68,7 +68,7 @@ fn message(starts: u32, values: u32) -> [u8; 18]
     requires zero_13 { starts / 0x20 % 2 ≡ 0 }
     requires zero_18 { starts % 2 ≡ 0 }
     requires values { values < 0x1000 }
-    ensures statuses { result ≡ statuses_before (bits_of 12 values) (bits_of 12 starts) }
+    ensures statuses { result ≡ statuses_with_check (bits_of 12 values) (bits_of 12 starts) }
     ensures message { IsMessageOf result (RUN_STARTS + starts) values }
     ensures two_bits { All HasTwoBits result }
 {

@@ -1,7 +1,7 @@
 -- An enhanced message is what a sensor sends, and is read as what it says.
 use Rattle.std.proofs.Common.{◌∙◌, ap}
 use Rattle.link_math.specs.Checks.{crc6_of}
-use Rattle.sent_serial.proofs.EncodedStatuses.{before-encoded}
+use Rattle.sent_serial.proofs.EncodedStatuses.{check-encoded}
 use Rattle.sent_serial.proofs.SentMessages.{enhanced-sent}
 use Rattle.sent_serial.proofs.encoders.message.Goals as goal
 
@@ -14,5 +14,5 @@ returns-clause-message c =
 pub returns-clause-statuses : goal.returns-clause-statuses
 returns-clause-statuses c =
     let values = rw c.from.ensures at c.spread.ensures.values in
-    before-encoded c.spread.new.statuses c.crc6-check.result c.args.values c.args.starts c.requires.starts c.requires.values c.crc6-check.ensures.is_six_bits
+    check-encoded c.spread.new.statuses c.crc6-check.result c.args.values c.args.starts c.requires.starts c.requires.values c.crc6-check.ensures.is_six_bits
     (c.crc6-check.ensures.value ∙ ap crc6_of c.checked.ensures) values c.spread.ensures.starts c.spread.ensures.two_bits
