@@ -1,0 +1,5 @@
+pub mod Lines
+pub mod Trains
+pub mod Traces
+pub mod FromFirst
+pub mod Places
