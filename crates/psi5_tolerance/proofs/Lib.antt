@@ -1,1 +1,5 @@
 pub mod Intervals
+pub mod RecordedFrames
+pub mod HeardFrames
+pub mod CutTrains
+pub mod DataLines

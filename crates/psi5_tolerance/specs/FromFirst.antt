@@ -1,6 +1,6 @@
 -- Which frames of a trace are read, from the first on whose first edge is recorded behind a quiet interval and, where there are slots, behind a sync pulse; this project's own.
-use Rattle.std.specs.Prelude.{ℕ, zero, suc, ◌+◌, ◌-◌, Bool, false, Option, List, [], ◌∷◌, ◌++◌, length, map, drop, sum, slice_index, slice_index_or, if◌then◌else◌}
-use Rattle.std.specs.List.{filter}
+use Rattle.std.specs.Prelude.{ℕ, zero, suc, ◌+◌, ◌-◌, Bool, false, Option, List, [], ◌∷◌, ◌++◌, length, map, drop, slice_index, slice_index_or, if◌then◌else◌}
+use Rattle.std.specs.List.{filter, sum_by}
 use Rattle.line_base.specs.Edges.{NumberedEdge}
 use Rattle.psi5_frame.specs.declared.burst.Payload.{Payload}
 use Rattle.psi5_frame.specs.declared.burst.Burst.{Burst}
@@ -47,7 +47,7 @@ heard_from s (suc missing) (message ∷ messages) edges told =
 
 -- how many edges of these messages have times that are known
 abbrev pub edges_in : Settings → List Psi5Message → ℕ
-edges_in s messages = sum (map (edge_count s) messages)
+edges_in s messages = sum_by (edge_count s) messages
 
 -- how many edges are recorded whose times are known: those of the data line and the rises of the sync line, but for the openings
 abbrev pub recorded_in : Option SyncWindows → List NumberedEdge → ℕ

@@ -7,3 +7,7 @@
 //! The jitter model and the bounds are this project's own. The crate has laws alone: its functions do
 //! nothing, and their contracts say what holds.
 #![tactic(auto)]
+
+mod meaning;
+
+pub use meaning::{half_bits_are_heard, honest_bursts_are_read};
