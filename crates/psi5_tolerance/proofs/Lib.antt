@@ -3,3 +3,4 @@ pub mod RecordedFrames
 pub mod HeardFrames
 pub mod CutTrains
 pub mod DataLines
+pub mod ExactTraces

@@ -3,3 +3,4 @@ pub mod Trains
 pub mod Traces
 pub mod FromFirst
 pub mod Places
+pub mod Exact

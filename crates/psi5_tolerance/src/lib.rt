@@ -8,6 +8,8 @@
 //! nothing, and their contracts say what holds.
 #![tactic(auto)]
 
+mod exact;
 mod meaning;
 
+pub use exact::{exact_trains_are_honest, nominal_bursts_are_honest};
 pub use meaning::{half_bits_are_heard, honest_bursts_are_read};
