@@ -4,3 +4,6 @@ pub mod HeardFrames
 pub mod CutTrains
 pub mod DataLines
 pub mod ExactTraces
+pub mod Windows
+pub mod Pulses
+pub mod SlotEdges

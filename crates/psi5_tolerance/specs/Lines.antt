@@ -49,7 +49,7 @@ AreInOrder (e ∷ edges) = IsNotBefore e.edge.time edges × AreInOrder edges
 unfoldable pub synced_after : Option SyncWindows → Bool → Bool → List NumberedEdge → List Bool
 synced_after sync opened synced [] = []
 synced_after sync opened synced (e ∷ edges) =
-    if is_on_sync sync e then synced_after sync true (synced || (opened && e.edge.level)) edges
+    if is_on_sync sync e then synced_after sync true (synced || (e.edge.level && opened)) edges
     else synced ∷ synced_after sync opened synced edges
 
 -- of each edge of the data line, whether a burst that begins with it is told: a sync pulse was recorded before it, or there are no slots
