@@ -68,7 +68,7 @@ record AllData (s : Settings) (sent : List Sending) : Type 0 where
   all : on_data (ideal_edges s sent) ≡ ideal_edges s sent
   none : on_sync (ideal_edges s sent) ≡ []
 
-none_at : (start half : ℕ) (level : Bool) (places : List ℕ) (rest : List IdealEdge) → on_sync (edges_at start half level places ++ rest) ≡ on_sync rest
+pub none_at : (start half : ℕ) (level : Bool) (places : List ℕ) (rest : List IdealEdge) → on_sync (edges_at start half level places ++ rest) ≡ on_sync rest
 unfolding edges_at
 none_at start half level [] rest = refl
 none_at start half level (place ∷ places) rest = none_at start half (not level) places rest

@@ -179,7 +179,7 @@ pub record Tells (s : Settings) (edges : List Change) (frames : List HeardFrame)
   pub bursts : all_bursts s edges ≡ map good_burst frames
   pub starts : starts_in edges ≡ map (λ (f : HeardFrame). f.first) frames
 
-first_frame : (s : Settings) (slot : Option ℕ) (p : Payload) (messages : List Psi5Message) (edges : List Change) (told : List Bool) → heard_from s 0 (Sent slot p ∷ messages) edges told
+pub first_frame : (s : Settings) (slot : Option ℕ) (p : Payload) (messages : List Psi5Message) (edges : List Change) (told : List Bool) → heard_from s 0 (Sent slot p ∷ messages) edges told
     ≡ heard_frame (edge_count s (Sent slot p)) slot p edges told ++ heard_from s 0 messages (drop (edge_count s (Sent slot p)) edges) (drop (edge_count s (Sent slot p)) told)
 unfolding heard_from
 first_frame s slot p messages edges told = refl
@@ -210,7 +210,7 @@ none_told : (s : Settings) (time : ℕ) (told : List Bool) → Tells s (changes_
 unfolding changes_after all_bursts starts_in heard_from
 none_told s time told = record { bursts = refl; starts = refl }
 
-sync_passes : (s : Settings) (messages : List Psi5Message) (edges : List Change) (told : List Bool) → heard_from s 0 messages edges told ≡ heard_from s 0 (Sync ∷ messages) edges told
+pub sync_passes : (s : Settings) (messages : List Psi5Message) (edges : List Change) (told : List Bool) → heard_from s 0 messages edges told ≡ heard_from s 0 (Sync ∷ messages) edges told
 unfolding heard_from
 sync_passes s messages edges told = refl
 

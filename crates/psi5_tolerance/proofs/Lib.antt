@@ -7,3 +7,4 @@ pub mod ExactTraces
 pub mod Windows
 pub mod Pulses
 pub mod SlotEdges
+pub mod SlotTrains
