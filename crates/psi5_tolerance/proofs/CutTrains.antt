@@ -120,7 +120,7 @@ pub none_left : (s : Settings) (missing time : ℕ) (told : List Bool) → Tells
 unfolding all_bursts starts_in changes_after heard_from
 none_left s missing time told = record { bursts = refl; starts = refl }
 
-next_missing : (s : Settings) (missing : ℕ) (message : Psi5Message) (messages : List Psi5Message) (edges : List Change) (told : List Bool) (rest dropped : ℕ) → suc missing - edge_count s message ≡ rest → edge_count s message - suc missing ≡ dropped
+pub next_missing : (s : Settings) (missing : ℕ) (message : Psi5Message) (messages : List Psi5Message) (edges : List Change) (told : List Bool) (rest dropped : ℕ) → suc missing - edge_count s message ≡ rest → edge_count s message - suc missing ≡ dropped
     → heard_from s rest messages (drop dropped edges) (drop dropped told) ≡ heard_from s (suc missing) (message ∷ messages) edges told
 unfolding heard_from
 next_missing s missing message messages edges told rest dropped e d = sym (ap₂ (λ n k. heard_from s n messages (drop k edges) (drop k told)) e d)

@@ -68,7 +68,7 @@ none_of : {A : Type 0} (xs : List A) → length xs ≡ 0 → xs ≡ []
 none_of [] e = refl
 none_of (x ∷ xs) e = absurd (omega (arith, e))
 
-same_missing : (s : Settings) (messages : List Psi5Message) (left_out recorded : ℕ) (edges : List Change) (told : List Bool) → recorded ≡ edges_in s messages - left_out → length edges ≤ recorded
+pub same_missing : (s : Settings) (messages : List Psi5Message) (left_out recorded : ℕ) (edges : List Change) (told : List Bool) → recorded ≡ edges_in s messages - left_out → length edges ≤ recorded
     → heard_from s left_out messages edges told ≡ heard_from s (edges_in s messages - recorded) messages edges told
 same_missing s messages left_out recorded edges told all few = elim (cases_lt (edges_in s messages) left_out) [
   | inl past ↦

@@ -8,3 +8,4 @@ pub mod Windows
 pub mod Pulses
 pub mod SlotEdges
 pub mod SlotTrains
+pub mod SlotLines

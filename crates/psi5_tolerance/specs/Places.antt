@@ -52,9 +52,9 @@ slot_starts s sync edges = filter (λ (edge : SlotEdge). begins edge.change) (sl
 abbrev pub slot_places : Settings → SyncWindows → List NumberedEdge → List Placed
 slot_places s sync edges = map (λ (edge : SlotEdge). placed_in sync.windows edge.history edge.time) (slot_starts s sync edges)
 
--- the place in the slot with this number; 0 where there are no slots
+-- the place in a slot with this number; in none where there is no number
 abbrev pub in_slot : Option ℕ → Placed
-in_slot None = Slot 0
+in_slot None = Before
 in_slot (Some number) = Slot number
 
 -- where a frame that is heard has to begin: in its slot, or before the first sync pulse

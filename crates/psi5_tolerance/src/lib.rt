@@ -12,4 +12,4 @@ mod exact;
 mod meaning;
 
 pub use exact::{exact_trains_are_honest, nominal_bursts_are_honest};
-pub use meaning::{half_bits_are_heard, honest_bursts_are_read};
+pub use meaning::{half_bits_are_heard, honest_bursts_are_in_their_slots, honest_bursts_are_read};

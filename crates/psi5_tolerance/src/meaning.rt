@@ -1,5 +1,5 @@
 //! What is read of honest traces.
-ghost use Rattle.std.specs.Prelude.{◌≡◌, ℕ, ◌+◌, ◌-◌, ◌*◌, ◌≤◌, List, Option, None, false, map};
+ghost use Rattle.std.specs.Prelude.{◌≡◌, ℕ, ◌+◌, ◌-◌, ◌*◌, ◌≤◌, List, Option, None, Some, false, map};
 ghost use Rattle.line_base.specs.Edges.{NumberedEdge};
 ghost use Rattle.link_math.specs.Manchester.{halves_in};
 ghost use Rattle.psi5_frame.specs.Bursts.{burst_starts, bursts_at_end};
@@ -8,6 +8,7 @@ ghost use Rattle.psi5_frame.specs.Setup.{Settings, fault_of};
 ghost use Rattle.tolerance.specs.Recorded.{IsRecorded};
 ghost use Rattle.psi5_tolerance.specs.FromFirst.{HeardFrame, from_first, good_burst, heard_of};
 ghost use Rattle.psi5_tolerance.specs.Lines.{SyncWindows, data_edges};
+ghost use Rattle.psi5_tolerance.specs.Places.{place_of, slot_places};
 ghost use Rattle.psi5_tolerance.specs.Traces.{IsHonest};
 ghost use Rattle.psi5_tolerance.specs.Trains.{IsHalf, Psi5Message};
 
@@ -41,4 +42,11 @@ pub fn honest_bursts_are_read()
         → bursts_at_end s (data_edges sync edges) ≡ map good_burst (heard_of s sync messages edges) }
     ensures line_starts { (s : Settings) (sync : Option SyncWindows) (messages : List Psi5Message) (edges : List NumberedEdge) → IsHonest s sync messages edges
         → burst_starts s (data_edges sync edges) ≡ map (λ (f : HeardFrame). f.first) (heard_of s sync messages edges) }
+{}
+
+/// Does nothing; its contract is a law. With slots each burst of an honest trace begins in its frame's slot,
+/// or before the first sync pulse that was seen.
+pub fn honest_bursts_are_in_their_slots()
+    ensures { (s : Settings) (sync : SyncWindows) (messages : List Psi5Message) (edges : List NumberedEdge) → IsHonest s (Some sync) messages edges
+        → slot_places s sync edges ≡ map place_of (heard_of s (Some sync) messages edges) }
 {}
