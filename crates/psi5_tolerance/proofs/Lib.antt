@@ -9,3 +9,4 @@ pub mod Pulses
 pub mod SlotEdges
 pub mod SlotTrains
 pub mod SlotLines
+pub mod FreeFrames

@@ -18,3 +18,4 @@ pub mod ReportFronts
 pub mod Takeable
 pub mod Tallies
 pub mod NoGaps
+pub mod Psi5Traces
