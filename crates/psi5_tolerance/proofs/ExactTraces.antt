@@ -27,19 +27,6 @@ unfolding edges_at
 first_at start half places = refl
 
 -- ---- times
-some_jitter : (a b c : Bool) → (if a then Some fault.Bit else (if b then Some fault.Parts else (if c then Some fault.Jitter else None))) ≡ None → c ≡ false
-some_jitter true b c e = absurd cc
-some_jitter false true c e = absurd cc
-some_jitter false false true e = absurd cc
-some_jitter false false false e = refl
-
-jitter_is : (bit jitter : ℕ) → (nat_lt jitter 1 || nat_lt bit (16 * jitter)) ≡ false → 1 ≤ jitter
-jitter_is bit jitter e = grind (arith, nat_tests)
-
-jitter-accepted : (s : Settings) → fault_of s.bit s.parts s.jitter ≡ None → 1 ≤ s.jitter
-jitter-accepted s accepted =
-    jitter_is s.bit s.jitter (some_jitter (not (nat_eq s.bit 8000 || nat_eq s.bit 5300)) (are_refused s.parts) (nat_lt s.jitter 1 || nat_lt s.bit (16 * s.jitter)) accepted)
-
 nearest-recorded : (jitter ideal : ℕ) → 1 ≤ jitter → IsRecorded jitter ideal (nearest ideal)
 nearest-recorded jitter ideal some = record { not_too_early = omega arith; not_too_late = omega arith }
 
@@ -226,7 +213,7 @@ free-honest line s sent accepted train =
       left_out = 0;
       data_line = record {
         times = subst (λ (l : List IdealEdge). AreRecorded s.jitter (ideal_times l) (times_of (data_edges None (exact_from line None 1 ideals)))) (sym all.all)
-            (subst (λ (l : List ℕ). AreRecorded s.jitter (ideal_times ideals) l) (sym one.times) (all-recorded s.jitter (ideal_times ideals) (jitter-accepted s accepted)));
+            (subst (λ (l : List ℕ). AreRecorded s.jitter (ideal_times ideals) l) (sym one.times) (all-recorded s.jitter (ideal_times ideals) (bounds-accepted s accepted).least));
         levels = one.levels ∙ ap (map (λ (ideal : IdealEdge). ideal.level)) (sym all.all);
         opens = opens_none s.jitter (data_edges None (exact_trace line s None sent));
       };
@@ -244,7 +231,7 @@ slots-honest line s sync sent accepted slots differ train =
     let ideals = ideal_edges s sent in
     let edges = exact_from line (Some sync) 2 ideals in
     let two = two_lines line 2 sync ideals differ in
-    let some = jitter-accepted s accepted in
+    let some = (bounds-accepted s accepted).least in
     let off : nat_eq line sync.line ≡ false = ne_eqb line sync.line differ in
     let on : nat_eq sync.line sync.line ≡ true = eq-eqb sync.line sync.line refl in
     let on_line : data_edges (Some sync) (exact_trace line s (Some sync) sent) ≡ opening_of 0 line ∷ data_edges (Some sync) edges = rw (off, on) refl in

@@ -19,6 +19,7 @@ use Rattle.psi5_tolerance.specs.Trains.{IsHalf}
 -- ---- the setup
 pub record AreBounds (bit jitter : ℕ) : Type 0 where
   pub some : 5300 ≤ bit
+  pub least : 1 ≤ jitter
   pub small : 16 * jitter ≤ bit
 
 by_tests : (a b c : Bool) → (if a then Some fault.Bit else (if b then Some fault.Parts else (if c then Some fault.Jitter else None))) ≡ None → (a ≡ false) × (c ≡ false)
@@ -30,13 +31,14 @@ by_tests false false false e = (refl, refl)
 bit_is : (bit : ℕ) → not (nat_eq bit 8000 || nat_eq bit 5300) ≡ false → 5300 ≤ bit
 bit_is bit e = grind (arith, nat_tests)
 
-jitter_is : (bit jitter : ℕ) → (nat_lt jitter 1 || nat_lt bit (16 * jitter)) ≡ false → 16 * jitter ≤ bit
-jitter_is bit jitter e = grind (arith, nat_tests)
+jitter_is : (bit jitter : ℕ) → (nat_lt jitter 1 || nat_lt bit (16 * jitter)) ≡ false → (1 ≤ jitter) × (16 * jitter ≤ bit)
+jitter_is bit jitter e = (grind (arith, nat_tests), grind (arith, nat_tests))
 
 pub bounds-accepted : (s : Settings) → fault_of s.bit s.parts s.jitter ≡ None → AreBounds s.bit s.jitter
 bounds-accepted s accepted =
     let tests = by_tests (not (nat_eq s.bit 8000 || nat_eq s.bit 5300)) (are_refused s.parts) (nat_lt s.jitter 1 || nat_lt s.bit (16 * s.jitter)) accepted in
-    record { some = bit_is s.bit tests.0; small = jitter_is s.bit s.jitter tests.1 }
+    let jitter = jitter_is s.bit s.jitter tests.1 in
+    record { some = bit_is s.bit tests.0; least = jitter.0; small = jitter.1 }
 
 -- ---- by inequalities
 is_one : (m bit : ℕ) → bit ≤ 4 * m → 4 * m < 3 * bit → halves_in m bit ≡ One

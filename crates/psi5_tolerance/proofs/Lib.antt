@@ -10,3 +10,4 @@ pub mod SlotEdges
 pub mod SlotTrains
 pub mod SlotLines
 pub mod FreeFrames
+pub mod BoundedTrains

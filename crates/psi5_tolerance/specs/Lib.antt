@@ -4,3 +4,4 @@ pub mod Traces
 pub mod FromFirst
 pub mod Places
 pub mod Exact
+pub mod Bounds
