@@ -1,5 +1,5 @@
 -- Where the bounds of what may be sent are.
-use Rattle.std.proofs.Common.{◌≡◌, ℕ, suc, ◌+◌, ◌*◌, ◌<◌, ◌≤◌, Option, None, Some, List, [], ◌∷◌, length, refl, sym, ◌∙◌, ap, subst, arith}
+use Rattle.std.proofs.Common.{◌≡◌, ℕ, ◌+◌, ◌*◌, ◌<◌, ◌≤◌, None, Some, List, [], ◌∷◌, length, refl, sym, ◌∙◌, ap, arith}
 use Rattle.line_base.specs.declared.edge.Span.{Span}
 use Rattle.psi5_frame.specs.declared.burst.Payload.{Payload}
 use Rattle.psi5_frame.specs.Frames.{Fits}
@@ -26,9 +26,10 @@ pub longer : (s : Settings) (payload : Payload) (start : ℕ) → IsTrain s None
 longer s payload start train = omega (arith, train.0.half_bits.not_above)
 
 pub closest : (s : Settings) (payload : Payload) (start : ℕ) → Fits s.parts payload → IsTrain s None (two_frames s payload start (1050 * s.bit))
-closest s payload start fits =
-    (record { fits = fits; half_bits = record { not_below = omega arith; not_above = omega arith }; apart = tt; in_slot = refl },
-      (record { fits = fits; half_bits = record { not_below = omega arith; not_above = omega arith }; apart = omega arith; in_slot = refl }, tt))
+closest s payload start fits = (
+  record { fits = fits; half_bits = record { not_below = omega arith; not_above = omega arith }; apart = tt; in_slot = refl },
+  (record { fits = fits; half_bits = record { not_below = omega arith; not_above = omega arith }; apart = omega arith; in_slot = refl }, tt),
+)
 
 pub closer : (s : Settings) (payload : Payload) (start quiet : ℕ) → quiet + 1 ≡ 1050 * s.bit → IsTrain s None (two_frames s payload start quiet) → ⊥
 closer s payload start quiet less train = omega (arith, less, train.1.0.apart)
@@ -45,14 +46,18 @@ pub earliest : (s : Settings) (sync : SyncWindows) (payload : Payload) (pulse nu
     → start + 500 * s.bit ≡ pulse + (1000 * (window_at sync.windows number).low + 2000 * s.jitter) → IsTrain s (Some sync) (answer s payload pulse number start)
 earliest s sync payload pulse number start accepted slots fits few at =
     let b = bounds-accepted s accepted in
-    let long = window-long s.bit (4 * s.bit) sync.windows number (windows-accepted s sync.windows slots) few in
-    (record { after_frame = tt; after_sync = tt },
-      (record {
-        fits = fits;
-        half_bits = record { not_below = omega arith; not_above = omega arith };
-        apart = tt;
-        in_slot = record { sync = pulse; is_after = refl; number = number; slot_is = refl; is_window = few; is_later = tt; not_early = omega (arith, at); not_late = omega (arith, at, long, b.small) };
-      }, tt))
+    let long = window-long s.bit (4 * s.bit) sync.windows number (windows-accepted s sync.windows slots) few in (
+      record { after_frame = tt; after_sync = tt },
+      (
+        record {
+          fits = fits;
+          half_bits = record { not_below = omega arith; not_above = omega arith };
+          apart = tt;
+          in_slot = record { sync = pulse; is_after = refl; number = number; slot_is = refl; is_window = few; is_later = tt; not_early = omega (arith, at); not_late = omega (arith, at, long, b.small) };
+        },
+        tt,
+      ),
+    )
 
 pub earlier : (s : Settings) (sync : SyncWindows) (payload : Payload) (pulse number start : ℕ)
     → start + 500 * s.bit + 1 ≡ pulse + (1000 * (window_at sync.windows number).low + 2000 * s.jitter) → IsTrain s (Some sync) (answer s payload pulse number start) → ⊥
@@ -66,14 +71,18 @@ pub latest : (s : Settings) (sync : SyncWindows) (payload : Payload) (pulse numb
     → start + 500 * s.bit + 2000 * s.jitter ≡ pulse + 1000 * (window_at sync.windows number).high → IsTrain s (Some sync) (answer s payload pulse number start)
 latest s sync payload pulse number start accepted slots fits few at =
     let b = bounds-accepted s accepted in
-    let long = window-long s.bit (4 * s.bit) sync.windows number (windows-accepted s sync.windows slots) few in
-    (record { after_frame = tt; after_sync = tt },
-      (record {
-        fits = fits;
-        half_bits = record { not_below = omega arith; not_above = omega arith };
-        apart = tt;
-        in_slot = record { sync = pulse; is_after = refl; number = number; slot_is = refl; is_window = few; is_later = tt; not_early = omega (arith, at, long, b.small); not_late = omega (arith, at) };
-      }, tt))
+    let long = window-long s.bit (4 * s.bit) sync.windows number (windows-accepted s sync.windows slots) few in (
+      record { after_frame = tt; after_sync = tt },
+      (
+        record {
+          fits = fits;
+          half_bits = record { not_below = omega arith; not_above = omega arith };
+          apart = tt;
+          in_slot = record { sync = pulse; is_after = refl; number = number; slot_is = refl; is_window = few; is_later = tt; not_early = omega (arith, at, long, b.small); not_late = omega (arith, at) };
+        },
+        tt,
+      ),
+    )
 
 pub later : (s : Settings) (sync : SyncWindows) (payload : Payload) (pulse number start : ℕ)
     → start + 500 * s.bit + 2000 * s.jitter ≡ pulse + 1000 * (window_at sync.windows number).high + 1 → IsTrain s (Some sync) (answer s payload pulse number start) → ⊥

@@ -2,7 +2,7 @@
 --     drop_in, drop_past, take_in, take_past      a joined list
 --     part_loud      no burst begins in what is left of a frame
 --     trace_heard      the frames of such a train
-use Rattle.std.proofs.Common.{◌≡◌, ℕ, zero, suc, ◌+◌, ◌-◌, ◌*◌, ◌<◌, ◌≤◌, ◌⊎◌, Bool, true, false, not, Option, List, [], ◌∷◌, ◌++◌, length, map, take, drop, refl, sym, ◌∙◌, ap, ap₂, subst, inl, inr, arith}
+use Rattle.std.proofs.Common.{◌≡◌, ℕ, zero, suc, ◌+◌, ◌-◌, ◌*◌, ◌<◌, ◌≤◌, Bool, true, false, not, Option, List, [], ◌∷◌, ◌++◌, length, map, take, drop, refl, sym, ◌∙◌, ap, ap₂, subst, inl, inr, arith}
 use Rattle.std.proofs.lemmas.Bool.{cases_lt}
 use Rattle.std.proofs.lemmas.List.{drop_at, map-append}
 use Rattle.line_base.specs.Edges.{NumberedEdge}
@@ -19,7 +19,7 @@ use Rattle.psi5_tolerance.specs.Traces.{on_data, ideal_times}
 use Rattle.psi5_tolerance.specs.FromFirst.{HeardFrame, edge_count, heard_from}
 use Rattle.psi5_tolerance.proofs.Intervals.{AreBounds, from_opening}
 use Rattle.psi5_tolerance.proofs.RecordedFrames.{AreEdges, length-edges, last_time, StepPlaces, are_places, heard, later_bits, later_places, waveform_is, no_start_in}
-use Rattle.psi5_tolerance.proofs.HeardFrames.{parted, changes_after-append, length-changes_after, length-frame, data-append, data-frame, skip_loud, skip_starts, Tells, frames_heard}
+use Rattle.psi5_tolerance.proofs.HeardFrames.{parted, changes_after-append, length-changes_after, length-frame, data-append, skip_loud, skip_starts, Tells, frames_heard}
 
 -- ---- joined lists
 pub drop_past : {A : Type 0} (n : ℕ) (front back : List A) → length front ≤ n → drop n (front ++ back) ≡ drop (n - length front) back
@@ -110,7 +110,7 @@ pub part_frame : (s : Settings) (sync : Option SyncWindows) (before : SentBefore
 part_frame s sync before f missing opening edges b may opens recorded =
     let places = later_places s f.payload in
     let whole : edges_sent s (FrameAt f) ≡ record { on_sync = false; time = f.start + 1 * f.half; level = true } ∷ edges_at f.start f.half false places =
-        ap (edges_at f.start f.half true) (waveform_is s f.payload) ∙ at-places f.start f.half true 1 places in
+    ap (edges_at f.start f.half true) (waveform_is s f.payload) ∙ at-places f.start f.half true 1 places in
     part_loud s f missing 1 true opening places edges b may.half_bits (are_places (later_bits s f.payload) 1 true).apart
     (subst (λ (l : List IdealEdge). OpensAfter s.jitter opening (ideal_times (take (suc missing) l))) whole opens)
     (subst (λ (l : List IdealEdge). AreEdges s.jitter (drop (suc missing) l) edges) whole recorded)
@@ -142,7 +142,7 @@ past_frame s f sent missing opening edges whole recorded opens =
     let dropped : drop (suc missing) (front ++ back) ≡ drop rest back = drop_past (suc missing) front back long ∙ ap (λ n. drop n back) same in
     let taken : take (suc missing) (front ++ back) ≡ front ++ take rest back = take_past (suc missing) front back long ∙ ap (λ n. front ++ take n back) same in
     let parts : ideal_times (on_data (front ++ take rest back)) ≡ ideal_times (on_data front) ++ ideal_times (on_data (take rest back)) =
-        ap ideal_times (data-append front (take rest back)) ∙ map-append (λ (ideal : IdealEdge). ideal.time) (on_data front) (on_data (take rest back)) in
+    ap ideal_times (data-append front (take rest back)) ∙ map-append (λ (ideal : IdealEdge). ideal.time) (on_data front) (on_data (take rest back)) in
     record {
       recorded = subst (λ (l : List IdealEdge). AreEdges s.jitter (on_data l) edges) dropped recorded;
       opens = opens-later s.jitter opening (ideal_times (on_data front)) (ideal_times (on_data (take rest back)))
@@ -166,7 +166,7 @@ in_frame s sync before f sent missing opening edges b may part recorded opens =
     let back = ideal_edges s sent in
     let within : suc missing ≤ length front = omega (arith, part, length-frame s f) in
     let dropped : on_data (drop (suc missing) (front ++ back)) ≡ drop (suc missing) front ++ on_data back =
-        ap on_data (drop_in (suc missing) front back within) ∙ data-append (drop (suc missing) front) back ∙ ap (λ l. l ++ on_data back) (data-dropped s f (suc missing)) in
+    ap on_data (drop_in (suc missing) front back within) ∙ data-append (drop (suc missing) front) back ∙ ap (λ l. l ++ on_data back) (data-dropped s f (suc missing)) in
     let taken : on_data (take (suc missing) (front ++ back)) ≡ take (suc missing) front = ap on_data (take_in (suc missing) front back within) ∙ data-taken s f (suc missing) in
     let parts = parted s.jitter (drop (suc missing) front) (on_data back) edges (subst (λ (l : List IdealEdge). AreEdges s.jitter l edges) dropped recorded) in
     record {
@@ -205,8 +205,8 @@ trace_heard s sync before (FrameAt f ∷ sent) (suc missing) opening edges told 
           let long : length left ≡ n = length-changes_after s.bit opening p.left ∙ p.long in
           let h = frames_heard s sync behind sent after p.right (drop n told) b train.1 p.recorded in
           let frames : heard_from s 0 messages right (drop n told) ≡ heard_from s (suc missing) (message ∷ messages) changes told =
-              ap (λ l. heard_from s 0 messages l (drop n told)) (sym (ap (drop n) all ∙ drop_at left right n long))
-              ∙ next_missing s missing message messages changes told 0 n (omega (arith, part)) refl in
+          ap (λ l. heard_from s 0 messages l (drop n told)) (sym (ap (drop n) all ∙ drop_at left right n long))
+          ∙ next_missing s missing message messages changes told 0 n (omega (arith, part)) refl in
           subst (λ (l : List HeardFrame). Tells s changes l) frames (record {
             bursts = ap (all_bursts s) all ∙ skip_loud s left right p.loud ∙ h.bursts;
             starts = ap starts_in all ∙ skip_starts s left right p.loud ∙ h.starts;

@@ -2,7 +2,7 @@
 --     same_missing      how many edges are missing follows from how many are recorded
 --     bursts-heard      the bursts of the data line are the frames that are heard
 --     all-told      without slots each of them is told
-use Rattle.std.proofs.Common.{◌≡◌, ℕ, zero, suc, ◌+◌, ◌-◌, ◌≤◌, ◌<◌, ◌⊎◌, Bool, true, false, not, cond, if◌then◌else◌, Option, None, Some, List, [], ◌∷◌, ◌++◌, length, map, take, drop, get_or, refl, sym, ◌∙◌, ap, ap₂, subst, inl, inr, arith}
+use Rattle.std.proofs.Common.{◌≡◌, ℕ, zero, suc, ◌+◌, ◌-◌, ◌≤◌, Bool, true, false, not, cond, if◌then◌else◌, Option, None, List, [], ◌∷◌, ◌++◌, length, map, take, drop, refl, sym, ◌∙◌, ap, ap₂, subst, inl, inr, arith}
 use Rattle.std.specs.List.{filter}
 use Rattle.std.proofs.lemmas.Bool.{cases_lt}
 use Rattle.std.proofs.lemmas.List.{length-append, length-map}
@@ -10,17 +10,16 @@ use Rattle.std.proofs.lemmas.List.Elements.{filter-append}
 use Rattle.std.proofs.lemmas.List.Sums.{sum_by-cons}
 use Rattle.line_base.specs.Edges.{NumberedEdge}
 use Rattle.psi5_frame.specs.declared.burst.Payload.{Payload}
-use Rattle.psi5_frame.specs.declared.burst.Burst.{Burst}
 use Rattle.psi5_frame.specs.Setup.{Settings}
 use Rattle.psi5_frame.specs.Edges.{Change, changes_of, changes_after}
 use Rattle.psi5_frame.specs.Bursts.{begins, all_bursts, starts_in, bursts_at_end, burst_starts}
-use Rattle.tolerance.specs.Recorded.{AreRecorded}
+use Rattle.tolerance.specs.Recorded.{AreRecorded, OpensAfter}
 use Rattle.psi5_tolerance.specs.Lines.{SyncWindows, data_edges, sync_edges, behind_opening, rises_of, times_of, told_edges, synced_after}
-use Rattle.psi5_tolerance.specs.Trains.{Psi5Message, Sync, Burst as Sent, FrameSent, Sending, SyncAt, FrameAt, message_of, IdealEdge, edges_sent, ideal_edges, nothing_sent}
+use Rattle.psi5_tolerance.specs.Trains.{Psi5Message, Sync, Burst as Sent, Sending, SyncAt, FrameAt, message_of, IdealEdge, edges_sent, ideal_edges, nothing_sent}
 use Rattle.psi5_tolerance.specs.Traces.{on_data, on_sync, ideal_times, OpensBehind, IsHonest}
 use Rattle.psi5_tolerance.specs.FromFirst.{HeardFrame, edge_count, number_at, heard_frame, heard_from, edges_in, recorded_in, heard_of, from_first, good_burst}
 use Rattle.psi5_tolerance.proofs.Intervals.{bounds-accepted}
-use Rattle.psi5_tolerance.proofs.RecordedFrames.{edges-recorded, length-edges}
+use Rattle.psi5_tolerance.proofs.RecordedFrames.{AreEdges, edges-recorded}
 use Rattle.psi5_tolerance.proofs.HeardFrames.{length-changes_after, length-frame, Tells}
 use Rattle.psi5_tolerance.proofs.CutTrains.{length-dropped, trace_heard}
 
@@ -85,40 +84,45 @@ recorded-all s sync messages edges h =
     let line = behind_opening (data_edges sync edges) in
     let rises = rises_of (sync_edges sync edges) in
     let on_line : length line ≡ length (on_data rest) =
-        sym (length-map line (λ e. e.edge.time)) ∙ length-recorded s.jitter (ideal_times (on_data rest)) (times_of line) h.data_line.times ∙ length-map (on_data rest) (λ ideal. ideal.time) in
+    sym (length-map line (λ e. e.edge.time)) ∙ length-recorded s.jitter (ideal_times (on_data rest)) (times_of line) h.data_line.times ∙ length-map (on_data rest) (λ ideal. ideal.time) in
     let syncs : length rises ≡ length (on_sync rest) =
-        sym (length-map rises (λ e. e.edge.time)) ∙ length-recorded s.jitter (ideal_times (on_sync rest)) (times_of rises) h.sync_line.times ∙ length-map (on_sync rest) (λ ideal. ideal.time) in
+    sym (length-map rises (λ e. e.edge.time)) ∙ length-recorded s.jitter (ideal_times (on_sync rest)) (times_of rises) h.sync_line.times ∙ length-map (on_sync rest) (λ ideal. ideal.time) in
     ap₂ (λ a b. a + b) on_line syncs ∙ both_lines rest ∙ length-dropped h.left_out (ideal_edges s h.sent)
     ∙ ap (λ n. n - h.left_out) (total-edges s h.sent ∙ ap (edges_in s) h.carries)
 
 -- ---- the data line
--- the changes of a line, where it has an edge
-pub line-tells : (s : Settings) (sync : Option SyncWindows) (messages : List Psi5Message) (edges line : List NumberedEdge) (told : List Bool) (h : IsHonest s sync messages edges) → data_edges sync edges ≡ line
-    → Tells s (changes_of s.bit line) (heard_from s (edges_in s messages - recorded_in sync edges) messages (changes_of s.bit line) told)
-unfolding changes_of all_bursts starts_in
-line-tells s sync messages edges [] told h is =
-    let none = none_given s (edges_in s messages - recorded_in sync edges) messages told in
-    record { bursts = sym (ap (map good_burst) none); starts = sym (ap (map (λ (f : HeardFrame). f.first)) none) }
-line-tells s sync messages edges (opening ∷ line) told h is =
+-- what holds where the line has no edge, and of its edges behind an opening with so many left out, holds of the line
+pub by-line : (s : Settings) (sync : Option SyncWindows) (messages : List Psi5Message) (edges line : List NumberedEdge) (told : List Bool) (h : IsHonest s sync messages edges) (P : List Change → List HeardFrame → Type 0) → data_edges sync edges ≡ line → P [] []
+    → ((opening : ℕ) (rest : List NumberedEdge) → AreEdges s.jitter (on_data (drop h.left_out (ideal_edges s h.sent))) rest → OpensAfter s.jitter opening (ideal_times (on_data (take h.left_out (ideal_edges s h.sent))))
+    → P (changes_after s.bit opening rest) (heard_from s h.left_out (map message_of h.sent) (changes_after s.bit opening rest) told))
+    → P (changes_of s.bit line) (heard_from s (edges_in s messages - recorded_in sync edges) messages (changes_of s.bit line) told)
+unfolding changes_of
+by-line s sync messages edges [] told h P is none some = subst (λ (l : List HeardFrame). P [] l) (sym (none_given s (edges_in s messages - recorded_in sync edges) messages told)) none
+by-line s sync messages edges (opening ∷ line) told h P is none some =
     let rest = on_data (drop h.left_out (ideal_edges s h.sent)) in
     let before = on_data (take h.left_out (ideal_edges s h.sent)) in
-    let b = bounds-accepted s h.accepted in
     let changes = changes_after s.bit opening.edge.time line in
     let times = subst (λ (l : List NumberedEdge). AreRecorded s.jitter (ideal_times rest) (times_of (behind_opening l))) is h.data_line.times in
     let levels = subst (λ (l : List NumberedEdge). map (λ (e : NumberedEdge). e.edge.level) (behind_opening l) ≡ map (λ (ideal : IdealEdge). ideal.level) rest) is h.data_line.levels in
     let opens = subst (λ (l : List NumberedEdge). OpensBehind s.jitter l before) is h.data_line.opens in
-    let heard = trace_heard s sync nothing_sent h.sent h.left_out opening.edge.time line told b h.train (edges-recorded s.jitter rest line times levels) opens in
     let few : length changes ≤ recorded_in sync edges =
-        omega (arith, length-changes_after s.bit opening.edge.time line, ap (λ l. length (behind_opening l)) is) in
+    omega (arith, length-changes_after s.bit opening.edge.time line, ap (λ l. length (behind_opening l)) is) in
     let same : heard_from s h.left_out (map message_of h.sent) changes told ≡ heard_from s (edges_in s messages - recorded_in sync edges) messages changes told =
-        ap (λ l. heard_from s h.left_out l changes told) h.carries
-        ∙ same_missing s messages h.left_out (recorded_in sync edges) changes told (recorded-all s sync messages edges h) few in
-    subst (λ (l : List HeardFrame). Tells s changes l) same heard
+    ap (λ l. heard_from s h.left_out l changes told) h.carries
+    ∙ same_missing s messages h.left_out (recorded_in sync edges) changes told (recorded-all s sync messages edges h) few in
+    subst (λ (l : List HeardFrame). P changes l) same (some opening.edge.time line (edges-recorded s.jitter rest line times levels) opens)
+
+tells_none : (s : Settings) → Tells s [] []
+unfolding all_bursts starts_in
+tells_none s = record { bursts = refl; starts = refl }
 
 pub bursts-heard : (s : Settings) (sync : Option SyncWindows) (messages : List Psi5Message) (edges : List NumberedEdge) → IsHonest s sync messages edges
     → Tells s (changes_of s.bit (data_edges sync edges)) (heard_of s sync messages edges)
 unfolding heard_of
-bursts-heard s sync messages edges h = line-tells s sync messages edges (data_edges sync edges) (drop 1 (told_edges sync edges)) h refl
+bursts-heard s sync messages edges h =
+    let told = drop 1 (told_edges sync edges) in
+    by-line s sync messages edges (data_edges sync edges) told h (Tells s) refl (tells_none s)
+    (λ opening rest recorded opens. trace_heard s sync nothing_sent h.sent h.left_out opening rest told (bounds-accepted s h.accepted) h.train recorded opens)
 
 -- ---- without slots
 -- a burst that begins with one of these edges is told
@@ -127,7 +131,7 @@ Covers told [] = Unit {0}
 Covers [] (edge ∷ edges) = ⊥
 Covers (is_told ∷ told) (edge ∷ edges) = (is_told ≡ true) × Covers told edges
 
-covers-drop : (n : ℕ) (told : List Bool) (edges : List Change) → Covers told edges → Covers (drop n told) (drop n edges)
+pub covers-drop : (n : ℕ) (told : List Bool) (edges : List Change) → Covers told edges → Covers (drop n told) (drop n edges)
 covers-drop zero told edges covers = covers
 covers-drop (suc n) told [] covers = tt
 covers-drop (suc n) [] (edge ∷ edges) covers = absurd covers
@@ -144,7 +148,7 @@ told_frame count slot p (edge ∷ edges) (is_told ∷ told) covers = rw covers.0
     by_first true = refl
     by_first false = refl
 
-all_told : (s : Settings) (missing : ℕ) (messages : List Psi5Message) (edges : List Change) (told : List Bool) → Covers told edges
+pub all_told : (s : Settings) (missing : ℕ) (messages : List Psi5Message) (edges : List Change) (told : List Bool) → Covers told edges
     → filter (λ (f : HeardFrame). f.is_told) (heard_from s missing messages edges told) ≡ heard_from s missing messages edges told
 unfolding heard_from
 all_told s missing [] edges told covers = refl

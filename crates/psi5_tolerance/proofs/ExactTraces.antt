@@ -1,24 +1,21 @@
 -- The edges of a train, recorded without jitter, are an honest trace.
 --     trains-honest      of each train that may be sent
 --     nominal-honest      of frames whose half-bits are half of the nominal bit time
-use Rattle.std.proofs.Common.{◌≡◌, ◌≢◌, ℕ, zero, suc, ◌+◌, ◌-◌, ◌*◌, ◌/◌, ◌≤◌, ◌<◌, ◌⊎◌, Bool, true, false, ◌||◌, not, nat_eq, nat_lt, cond, if◌then◌else◌, Option, None, Some, List, [], ◌∷◌, ◌++◌, length, map, take, drop, flat_map, refl, sym, ◌∙◌, ap, ap₂, subst, inl, inr, arith}
+use Rattle.std.proofs.Common.{◌≡◌, ◌≢◌, ℕ, suc, ◌+◌, ◌*◌, ◌≤◌, ◌<◌, ◌⊎◌, Bool, true, false, not, nat_eq, cond, if◌then◌else◌, Option, None, Some, List, [], ◌∷◌, ◌++◌, map, refl, sym, ◌∙◌, ap, subst, inl, inr, arith}
 use Rattle.std.specs.List.{filter}
 use Rattle.std.specs.Option.{IfSome}
 use Rattle.std.proofs.lemmas.Bool.{eq-eqb, ne_eqb}
-use Rattle.std.proofs.lemmas.Bool.Decides.{nat_tests}
 use Rattle.std.proofs.lemmas.Nat.{mul-le}
 use Rattle.line_base.specs.Edges.{NumberedEdge}
-use Rattle.line_base.specs.declared.edge.Span.{Span}
-use Rattle.line_base.specs.declared.faults.SetupFault.TheVariants as fault
-use Rattle.psi5_frame.specs.Setup.{Settings, fault_of, are_refused, bit_count}
-use Rattle.psi5_frame.specs.Frames.{Fits, frame_of, waveform}
+use Rattle.psi5_frame.specs.Setup.{Settings, fault_of, bit_count}
+use Rattle.psi5_frame.specs.Frames.{frame_of, waveform}
 use Rattle.psi5_frame.proofs.FrameLaws.{length-framed}
 use Rattle.tolerance.specs.Recorded.{IsRecorded, AreRecorded}
 use Rattle.psi5_tolerance.specs.Lines.{SyncWindows, is_on_sync, data_edges, sync_edges, behind_opening, rises_of, times_of, IsNotBefore, AreInOrder}
-use Rattle.psi5_tolerance.specs.Trains.{Psi5Message, FrameSent, Sending, SyncAt, FrameAt, message_of, IdealEdge, edges_at, edges_sent, ideal_edges, SentBefore, nothing_sent, end_of, sent_with, IsHalf, IsFrameSent, IsTrainBehind, IsTrain}
-use Rattle.psi5_tolerance.specs.Traces.{on_data, on_sync, ideal_times, AreSlots, AreTogether, OpensBehind, IsDataLine, IsSyncLine, IsHonest}
+use Rattle.psi5_tolerance.specs.Trains.{Psi5Message, FrameSent, Sending, SyncAt, FrameAt, message_of, IdealEdge, edges_at, edges_sent, ideal_edges, SentBefore, nothing_sent, end_of, sent_with, IsFrameSent, IsTrainBehind, IsTrain}
+use Rattle.psi5_tolerance.specs.Traces.{on_data, on_sync, ideal_times, AreSlots, OpensBehind, IsHonest}
 use Rattle.psi5_tolerance.specs.Exact.{nearest, AreTwoLines, exact_edge, exact_from, opening_of, exact_trace, NominalBurst, nominal_frame, nominal_train, nominal_messages, AreNominal}
-use Rattle.psi5_tolerance.proofs.Intervals.{AreBounds, bounds-accepted}
+use Rattle.psi5_tolerance.proofs.Intervals.{bounds-accepted}
 use Rattle.psi5_tolerance.proofs.RecordedFrames.{StepPlaces, last_place, are_places, later_bits, later_places, waveform_is}
 use Rattle.psi5_tolerance.proofs.HeardFrames.{data-train}
 
@@ -179,8 +176,8 @@ train-rises s sync before (FrameAt f ∷ sent) time past train =
     let end : f.start + last_place 1 (later_places s f.payload) * f.half ≤ end_of s f = omega (arith, mul-le (last_place 1 (later_places s f.payload)) f.half (2 * bit_count s) f.half few (omega arith)) in
     let later = train-rises s sync behind sent (end_of s f) (AtFrame (end_of s f) refl (omega arith)) train.1 in
     let whole : Rise time (edges_at f.start f.half true (1 ∷ later_places s f.payload) ++ rest) =
-        first_rises f.start f.half time (later_places s f.payload) rest (rise-later s sync before f time past train.0)
-        (places-rise f.start f.half 1 false (later_places s f.payload) rest places.apart (rise-from (f.start + last_place 1 (later_places s f.payload) * f.half) (end_of s f) rest end later)) in
+    first_rises f.start f.half time (later_places s f.payload) rest (rise-later s sync before f time past train.0)
+    (places-rise f.start f.half 1 false (later_places s f.payload) rest places.apart (rise-from (f.start + last_place 1 (later_places s f.payload) * f.half) (end_of s f) rest end later)) in
     subst (λ (l : List ℕ). Rise time (edges_at f.start f.half true l ++ rest)) (sym (waveform_is s f.payload)) whole
   where
     first_rises : (start half time : ℕ) (places : List ℕ) (rest : List IdealEdge) → time ≤ start + 1 * half → Rise (start + 1 * half) (edges_at start half false places ++ rest)
@@ -269,9 +266,10 @@ nominal_behind : (s : Settings) (before : SentBefore) (burst : NominalBurst) (bu
     → IsTrainBehind s None before (nominal_train s (burst ∷ bursts))
 nominal_behind s before burst [] apart nominal =
     (record { fits = nominal.0; half_bits = record { not_below = omega arith; not_above = omega arith }; apart = apart; in_slot = refl }, tt)
-nominal_behind s before burst (next ∷ bursts) apart nominal =
-    (record { fits = nominal.0; half_bits = record { not_below = omega arith; not_above = omega arith }; apart = apart; in_slot = refl },
-      nominal_behind s (sent_with s before (FrameAt (nominal_frame s burst))) next bursts nominal.1 nominal.2)
+nominal_behind s before burst (next ∷ bursts) apart nominal = (
+  record { fits = nominal.0; half_bits = record { not_below = omega arith; not_above = omega arith }; apart = apart; in_slot = refl },
+  nominal_behind s (sent_with s before (FrameAt (nominal_frame s burst))) next bursts nominal.1 nominal.2,
+)
 
 nominal-train : (s : Settings) (bursts : List NominalBurst) → AreNominal s bursts → IsTrain s None (nominal_train s bursts)
 nominal-train s [] nominal = tt

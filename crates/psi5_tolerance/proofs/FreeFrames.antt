@@ -1,6 +1,6 @@
 -- The frames of a trace without slots have none.
 --     free-frames      each that is heard
-use Rattle.std.proofs.Common.{◌≡◌, ℕ, zero, suc, ◌+◌, ◌-◌, Bool, true, false, if◌then◌else◌, Option, None, List, [], ◌∷◌, ◌++◌, map, drop, get_or, refl, subst}
+use Rattle.std.proofs.Common.{◌≡◌, ℕ, zero, suc, ◌-◌, Bool, true, false, if◌then◌else◌, Option, None, List, [], ◌∷◌, ◌++◌, map, drop, get_or, subst}
 use Rattle.line_base.specs.Edges.{NumberedEdge}
 use Rattle.psi5_frame.specs.declared.burst.Payload.{Payload}
 use Rattle.psi5_frame.specs.Setup.{Settings}

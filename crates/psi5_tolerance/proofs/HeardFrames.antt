@@ -2,14 +2,13 @@
 --     parted      edges that are recorded of a list that was joined
 --     frame_parts      the edges of a frame, and those behind it
 --     frames_heard      all frames of a train
-use Rattle.std.proofs.Common.{◌≡◌, ℕ, zero, suc, ◌+◌, ◌-◌, ◌*◌, ◌≤◌, Bool, true, false, ◌||◌, not, cond, if◌then◌else◌, Option, None, Some, List, [], ◌∷◌, ◌++◌, length, map, drop, get_or, flat_map, refl, sym, ◌∙◌, ap, ap₂, subst, arith}
+use Rattle.std.proofs.Common.{◌≡◌, ℕ, suc, ◌+◌, ◌-◌, ◌*◌, ◌≤◌, Bool, true, false, ◌||◌, not, cond, if◌then◌else◌, Option, Some, List, [], ◌∷◌, ◌++◌, length, map, drop, get_or, refl, sym, ◌∙◌, ap, ap₂, subst, arith}
 use Rattle.std.specs.Option.{IfSome}
 use Rattle.std.specs.List.{filter}
 use Rattle.std.proofs.lemmas.List.{drop_at}
 use Rattle.std.proofs.lemmas.List.Elements.{filter-append}
 use Rattle.line_base.specs.Edges.{NumberedEdge}
 use Rattle.psi5_frame.specs.declared.burst.Payload.{Payload}
-use Rattle.psi5_frame.specs.declared.burst.Burst.{Burst}
 use Rattle.psi5_frame.specs.declared.burst.Burst.TheVariants.{Good}
 use Rattle.psi5_frame.specs.Intervals.{is_quiet}
 use Rattle.psi5_frame.specs.Setup.{Settings}
@@ -157,11 +156,11 @@ changes-parts s f sent time edges p =
     ap (changes_after s.bit time) p.is ∙ changes_after-append s.bit time p.left p.right
     ∙ ap (λ l. changes_after s.bit time l ++ changes_after s.bit (last_time time p.left) p.right) p.heard.is
 
-count-parts : (s : Settings) (f : FrameSent) (sent : List Sending) (time : ℕ) (edges : List NumberedEdge) (p : FrameParts s f sent time edges) → edge_count s (message_of (FrameAt f)) ≡ suc (length (later_changes p.heard))
+pub count-parts : (s : Settings) (f : FrameSent) (sent : List Sending) (time : ℕ) (edges : List NumberedEdge) (p : FrameParts s f sent time edges) → edge_count s (message_of (FrameAt f)) ≡ suc (length (later_changes p.heard))
 count-parts s f sent time edges p = p.count ∙ ap length p.heard.is ∙ ap suc (sym (length-changes_after s.bit p.heard.first.edge.time p.heard.rest))
 
 -- the next frame's first edge begins a burst
-next_begins : (s : Settings) (sync : Option SyncWindows) (before : SentBefore) (sent : List Sending) (end time : ℕ) (edges : List NumberedEdge) → AreBounds s.bit s.jitter → IsTrainBehind s sync before sent
+pub next_begins : (s : Settings) (sync : Option SyncWindows) (before : SentBefore) (sent : List Sending) (end time : ℕ) (edges : List NumberedEdge) → AreBounds s.bit s.jitter → IsTrainBehind s sync before sent
     → before.frame_end ≡ Some end → 1000 * time ≤ end + 1000 * s.jitter → AreEdges s.jitter (on_data (ideal_edges s sent)) edges → BeginsOrEmpty (changes_after s.bit time edges)
 unfolding changes_after
 next_begins s sync before [] end time [] b train is late recorded = tt
@@ -188,9 +187,9 @@ frame_tells : (s : Settings) (slot : Option ℕ) (p : Payload) (first : Change) 
     → judged s first later ≡ Good (last_of first later).number p → edge_count s (Sent slot p) ≡ suc (length later) → Tells s rest frames
     → Tells s (first ∷ (later ++ rest)) (heard_frame (edge_count s (Sent slot p)) slot p (first ∷ (later ++ rest)) told ++ frames)
 frame_tells s slot p first later rest frames told none next said count then_tells = record {
-      bursts = one_burst s first later rest none next ∙ by_burst (begins first);
-      starts = one_start s first later rest none ∙ by_start (begins first);
-    }
+  bursts = one_burst s first later rest none next ∙ by_burst (begins first);
+  starts = one_start s first later rest none ∙ by_start (begins first);
+}
   where
     number : number_at (first ∷ (later ++ rest)) (edge_count s (Sent slot p) - 1) ≡ (last_of first later).number
     number = let e : edge_count s (Sent slot p) - 1 ≡ length later = omega (arith, count) in ap (number_at (first ∷ (later ++ rest))) e ∙ number_last first later rest
@@ -234,8 +233,8 @@ frames_heard s sync before (FrameAt f ∷ sent) time edges told b train recorded
     let next = next_begins s sync behind sent (end_of s f) after p.right b train.1 refl p.heard.ends p.recorded in
     let left : drop n all ≡ rest = ap (λ k. drop k all) count ∙ drop_at later rest (length later) refl in
     let whole : heard_from s 0 (map message_of (FrameAt f ∷ sent)) all told ≡ heard_frame n f.slot f.payload all told ++ heard_from s 0 (map message_of sent) rest (drop n told) =
-        first_frame s f.slot f.payload (map message_of sent) all told ∙ ap (λ l. heard_frame n f.slot f.payload all told ++ heard_from s 0 (map message_of sent) l (drop n told)) left in
+    first_frame s f.slot f.payload (map message_of sent) all told ∙ ap (λ l. heard_frame n f.slot f.payload all told ++ heard_from s 0 (map message_of sent) l (drop n told)) left in
     let tells = frame_tells s f.slot f.payload first later rest (heard_from s 0 (map message_of sent) rest (drop n told)) told p.heard.goes_on next p.heard.said count
-        (frames_heard s sync behind sent after p.right (drop n told) b train.1 p.recorded) in
+    (frames_heard s sync behind sent after p.right (drop n told) b train.1 p.recorded) in
     subst (λ (l : List Change). Tells s l (heard_from s 0 (map message_of (FrameAt f ∷ sent)) l told)) (sym (changes-parts s f sent time edges p))
     (subst (λ (l : List HeardFrame). Tells s all l) (sym whole) tells)

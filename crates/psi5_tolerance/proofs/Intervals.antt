@@ -3,11 +3,10 @@
 --     one_half, two_halves      between two edges of a frame
 --     between_frames      from a frame to the next
 --     from_opening      from an opening within a frame to its next edge
-use Rattle.std.proofs.Common.{◌≡◌, ℕ, ◌+◌, ◌-◌, ◌*◌, ◌<◌, ◌≤◌, Bool, true, false, ◌||◌, not, nat_eq, nat_lt, cond, if◌then◌else◌, Option, None, Some, refl, arith}
+use Rattle.std.proofs.Common.{◌≡◌, ℕ, ◌+◌, ◌-◌, ◌*◌, ◌<◌, ◌≤◌, Bool, true, false, ◌||◌, not, nat_eq, nat_lt, cond, if◌then◌else◌, None, Some, refl, arith}
 use Rattle.std.proofs.lemmas.Nat.{mul-le}
 use Rattle.std.proofs.lemmas.Bool.{le-ltb, lt-ltb}
 use Rattle.std.proofs.lemmas.Bool.Decides.{nat_tests}
-use Rattle.line_base.specs.declared.faults.SetupFault.{SetupFault}
 use Rattle.line_base.specs.declared.faults.SetupFault.TheVariants as fault
 use Rattle.link_math.specs.declared.manchester.Halves.TheVariants.{Short, One, Two, Quiet}
 use Rattle.link_math.specs.Manchester.{halves_in}

@@ -11,3 +11,4 @@ pub mod SlotTrains
 pub mod SlotLines
 pub mod FreeFrames
 pub mod BoundedTrains
+pub mod RestOfFrames

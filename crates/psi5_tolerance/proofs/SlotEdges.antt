@@ -3,17 +3,17 @@
 --     follow-line      from each to the next, sync pulses come in between
 --     stand-line      the sync pulses before each are the first of those that are recorded, and the others come later
 --     told-line      whether a sync pulse was recorded before each
-use Rattle.std.proofs.Common.{◌≡◌, ℕ, suc, ◌+◌, ◌-◌, ◌≤◌, ◌<◌, Bool, true, false, ◌&&◌, ◌||◌, not, cond, if◌then◌else◌, Option, None, Some, List, [], ◌∷◌, ◌++◌, length, map, drop, refl, sym, ◌∙◌, ap, ap₂, subst, append_assoc, append-nil, arith}
+use Rattle.std.proofs.Common.{◌≡◌, ℕ, ◌≤◌, Bool, true, false, ◌&&◌, ◌||◌, not, cond, if◌then◌else◌, None, Some, List, [], ◌∷◌, ◌++◌, map, drop, refl, sym, ◌∙◌, ap, ap₂, subst, append_assoc, append-nil, arith}
 use Rattle.std.specs.List.{filter}
 use Rattle.std.proofs.lemmas.List.{map-append}
 use Rattle.line_base.specs.Edges.{NumberedEdge}
-use Rattle.psi5_frame.specs.Edges.{Change, change_at, changes_after, changes_of}
+use Rattle.psi5_frame.specs.Edges.{Change, change_at, changes_after}
 use Rattle.psi5_frame.specs.Bursts.{begins}
 use Rattle.psi5_slots.specs.History.{Event, has_sync}
 use Rattle.psi5_slots.specs.History.Event.{Sync, Start}
 use Rattle.psi5_tolerance.specs.Lines.{SyncWindows, is_on_sync, data_edges, sync_edges, rises_of, times_of, IsNotBefore, AreInOrder, synced_after}
 use Rattle.psi5_tolerance.specs.Places.{SlotEdge, pulse_of, start_of, slot_edge, slot_edges_after}
-use Rattle.psi5_tolerance.proofs.Pulses.{pulses_in, pulses-append, pulses-all}
+use Rattle.psi5_tolerance.proofs.Pulses.{pulses_in, pulses-append}
 
 -- ---- they are the edges of the data line
 -- each is the edge of the line at its place, where the edge before them was at this time
@@ -38,8 +38,8 @@ measured-after bit sync opened history time (e ∷ edges) =
     by_line : (b : Bool) → AreMeasured bit time (data_edges (Some sync) edges) (slot_edges_after bit sync true (history ++ pulse_of opened e) (Some time) edges)
         → AreMeasured bit e.edge.time (data_edges (Some sync) edges) (slot_edges_after bit sync opened (history ++ start_of (slot_edge bit time history e)) (Some e.edge.time) edges)
         → AreMeasured bit time (cond (not b) (e ∷ data_edges (Some sync) edges) (data_edges (Some sync) edges))
-            (cond b (slot_edges_after bit sync true (history ++ pulse_of opened e) (Some time) edges)
-            (slot_edge bit time history e ∷ slot_edges_after bit sync opened (history ++ start_of (slot_edge bit time history e)) (Some e.edge.time) edges))
+        (cond b (slot_edges_after bit sync true (history ++ pulse_of opened e) (Some time) edges)
+        (slot_edge bit time history e ∷ slot_edges_after bit sync opened (history ++ start_of (slot_edge bit time history e)) (Some e.edge.time) edges))
     by_line true on off = on
     by_line false on off = (refl, refl, off)
 
@@ -53,7 +53,7 @@ measured-line bit sync opened history (e ∷ edges) =
     by_line : (b : Bool) → AreMeasuredOf bit (data_edges (Some sync) edges) (slot_edges_after bit sync true (history ++ pulse_of opened e) None edges)
         → AreMeasured bit e.edge.time (data_edges (Some sync) edges) (slot_edges_after bit sync opened history (Some e.edge.time) edges)
         → AreMeasuredOf bit (cond (not b) (e ∷ data_edges (Some sync) edges) (data_edges (Some sync) edges))
-            (cond b (slot_edges_after bit sync true (history ++ pulse_of opened e) None edges) (slot_edges_after bit sync opened history (Some e.edge.time) edges))
+        (cond b (slot_edges_after bit sync true (history ++ pulse_of opened e) None edges) (slot_edges_after bit sync opened history (Some e.edge.time) edges))
     by_line true on off = on
     by_line false on off = off
 
@@ -88,14 +88,14 @@ pulse_between opened history e = by_rise (e.edge.level && opened)
 follow-from : (before after : List Event) (edges : List SlotEdge) → IsBetween before after → Follow after edges → Follow before edges
 follow-from before after [] between follow = tt
 follow-from before after (edge ∷ edges) between follow = (
-    record {
-      pulses = between.pulses ++ follow.0.pulses;
-      is = follow.0.is ∙ ap (λ l. l ++ map (λ time. Sync time) follow.0.pulses) between.is
-          ∙ append_assoc before (map (λ time. Sync time) between.pulses) (map (λ time. Sync time) follow.0.pulses)
-          ∙ ap (λ l. before ++ l) (sym (map-append (λ time. Sync time) between.pulses follow.0.pulses));
-    },
-    follow.1,
-  )
+  record {
+    pulses = between.pulses ++ follow.0.pulses;
+    is = follow.0.is ∙ ap (λ l. l ++ map (λ time. Sync time) follow.0.pulses) between.is
+        ∙ append_assoc before (map (λ time. Sync time) between.pulses) (map (λ time. Sync time) follow.0.pulses)
+        ∙ ap (λ l. before ++ l) (sym (map-append (λ time. Sync time) between.pulses follow.0.pulses));
+  },
+  follow.1,
+)
 
 follow-after : (bit : ℕ) (sync : SyncWindows) (opened : Bool) (history : List Event) (time : ℕ) (edges : List NumberedEdge) → Follow history (slot_edges_after bit sync opened history (Some time) edges)
 unfolding slot_edges_after
@@ -107,7 +107,7 @@ follow-after bit sync opened history time (e ∷ edges) =
     by_line : (b : Bool) → Follow (history ++ pulse_of opened e) (slot_edges_after bit sync true (history ++ pulse_of opened e) (Some time) edges)
         → Follow (history ++ start_of (slot_edge bit time history e)) (slot_edges_after bit sync opened (history ++ start_of (slot_edge bit time history e)) (Some e.edge.time) edges)
         → Follow history (cond b (slot_edges_after bit sync true (history ++ pulse_of opened e) (Some time) edges)
-            (slot_edge bit time history e ∷ slot_edges_after bit sync opened (history ++ start_of (slot_edge bit time history e)) (Some e.edge.time) edges))
+        (slot_edge bit time history e ∷ slot_edges_after bit sync opened (history ++ start_of (slot_edge bit time history e)) (Some e.edge.time) edges))
     by_line true on off = follow-from history (history ++ pulse_of opened e) (slot_edges_after bit sync true (history ++ pulse_of opened e) (Some time) edges) (pulse_between opened history e) on
     by_line false on off = (record { pulses = []; is = sym (append-nil history) }, off)
 
@@ -276,7 +276,7 @@ stand-after pulses bit sync opened history last time (e ∷ edges) at =
     by_line : (b : Bool) → is_on_sync (Some sync) e ≡ b → (is_on_sync (Some sync) e ≡ true → AllStandIn pulses (slot_edges_after bit sync true (history ++ pulse_of opened e) (Some last) edges))
         → (is_on_sync (Some sync) e ≡ false → AllStandIn pulses (slot_edges_after bit sync opened (history ++ start_of (slot_edge bit last history e)) (Some e.edge.time) edges))
         → AllStandIn pulses (cond b (slot_edges_after bit sync true (history ++ pulse_of opened e) (Some last) edges)
-            (slot_edge bit last history e ∷ slot_edges_after bit sync opened (history ++ start_of (slot_edge bit last history e)) (Some e.edge.time) edges))
+        (slot_edge bit last history e ∷ slot_edges_after bit sync opened (history ++ start_of (slot_edge bit last history e)) (Some e.edge.time) edges))
     by_line true is on off = on is
     by_line false is on off = (stands-data pulses sync opened history bit last time e edges is at, off is)
 
@@ -341,7 +341,7 @@ told-after bit sync opened synced history last (e ∷ edges) same =
         → synced_after (Some sync) opened synced edges ≡ told_in (slot_edges_after bit sync opened (history ++ start_of (slot_edge bit last history e)) (Some e.edge.time) edges)
         → cond b (synced_after (Some sync) true (synced || (e.edge.level && opened)) edges) (synced ∷ synced_after (Some sync) opened synced edges)
         ≡ told_in (cond b (slot_edges_after bit sync true (history ++ pulse_of opened e) (Some last) edges)
-            (slot_edge bit last history e ∷ slot_edges_after bit sync opened (history ++ start_of (slot_edge bit last history e)) (Some e.edge.time) edges))
+        (slot_edge bit last history e ∷ slot_edges_after bit sync opened (history ++ start_of (slot_edge bit last history e)) (Some e.edge.time) edges))
     by_line true on off = on
     by_line false on off = ap₂ (λ x l. x ∷ l) same off
 

@@ -2,20 +2,19 @@
 --     slots_cut      of a train of which the first edges are missing
 --     placed-line      of an honest trace
 --     slot-places      the places of its bursts
-use Rattle.std.proofs.Common.{◌≡◌, ℕ, zero, suc, ◌+◌, ◌-◌, ◌≤◌, ◌<◌, ◌⊎◌, ◌*◌, Bool, true, false, not, if◌then◌else◌, Option, None, Some, List, [], ◌∷◌, ◌++◌, length, map, take, drop, refl, sym, ◌∙◌, ap, ap₂, subst, inl, inr, arith}
+use Rattle.std.proofs.Common.{◌≡◌, ℕ, zero, suc, ◌-◌, ◌≤◌, ◌<◌, ◌*◌, Bool, true, false, not, if◌then◌else◌, Some, List, [], ◌∷◌, ◌++◌, length, map, take, drop, refl, sym, ◌∙◌, ap, ap₂, subst, inl, inr, arith}
 use Rattle.std.specs.List.{AllZip}
 use Rattle.std.proofs.lemmas.Bool.{cases_lt}
 use Rattle.line_base.specs.declared.edge.Span.{Span}
 use Rattle.line_base.specs.Edges.{NumberedEdge}
 use Rattle.psi5_frame.specs.Setup.{Settings}
-use Rattle.psi5_frame.specs.Edges.{Change, changes_of, changes_after}
+use Rattle.psi5_frame.specs.Edges.{changes_of, changes_after}
 use Rattle.psi5_frame.specs.Frames.{frame_of, waveform}
 use Rattle.psi5_frame.specs.Bursts.{has_start}
-use Rattle.psi5_slots.specs.declared.placed.Placed.{Placed}
-use Rattle.psi5_slots.specs.declared.placed.Placed.TheVariants.{Before, Slot}
+use Rattle.psi5_slots.specs.declared.placed.Placed.TheVariants.{Before}
 use Rattle.psi5_slots.specs.History.{Event, has_sync, placed_in}
 use Rattle.tolerance.specs.Recorded.{AreRecorded, OpensAfter}
-use Rattle.psi5_tolerance.specs.Lines.{SyncWindows, data_edges, sync_edges, behind_opening, rises_of, times_of, told_edges}
+use Rattle.psi5_tolerance.specs.Lines.{SyncWindows, data_edges, sync_edges, behind_opening, rises_of, times_of}
 use Rattle.psi5_tolerance.specs.Trains.{Psi5Message, Sync, FrameSent, Sending, SyncAt, FrameAt, message_of, IdealEdge, edges_at, edges_sent, ideal_edges, SentBefore, nothing_sent, sent_with, IsTrainBehind}
 use Rattle.psi5_tolerance.specs.Traces.{on_data, on_sync, ideal_times, OpensBehind, IsHonest}
 use Rattle.psi5_tolerance.specs.FromFirst.{HeardFrame, edge_count, heard_from, edges_in, recorded_in, heard_of}
@@ -28,7 +27,7 @@ use Rattle.psi5_tolerance.proofs.DataLines.{none_given, same_missing, recorded-a
 use Rattle.psi5_tolerance.proofs.Windows.{AreWindows, windows-accepted}
 use Rattle.psi5_tolerance.proofs.Pulses.{starts_at}
 use Rattle.psi5_tolerance.proofs.SlotEdges.{AreMeasured, AreMeasuredOf, measured-line, changes_in, measured-changes, Follow, follow-line, AllStandIn, stand-line, rises-line, told_in, told-line}
-use Rattle.psi5_tolerance.proofs.SlotTrains.{IsPlaced, ArePlaced, pulses-frame, NoneSeen, measured_parts, length-measured, starting, loud-starting, stand-back, loud-follow, drop-mapped, slots_heard}
+use Rattle.psi5_tolerance.proofs.SlotTrains.{IsPlaced, ArePlaced, NoneSeen, measured_parts, length-measured, starting, loud-starting, stand-back, loud-follow, drop-mapped, slots_heard}
 
 -- ---- the sync pulses that are left
 dropped_at : (n start half : ℕ) (level : Bool) (places : List ℕ) (rest : List IdealEdge) → on_sync (drop n (edges_at start half level places) ++ rest) ≡ on_sync rest
@@ -94,20 +93,20 @@ slots_cut s sync before (FrameAt f ∷ sent) (suc missing) opening line edges hi
           let on = loud-follow history m.front m.back loud (subst (λ (l : List SlotEdge). Follow history l) m.is are.follow) in
           let long : n ≡ length m.front = sym (length-measured s.bit opening p.left m.front m.front_measured ∙ p.long) in
           let heard = slots_heard s sync behind sent _ p.right m.back on.after [] pulses pulses b w train.1
-              (record {
-                recorded = p.recorded;
-                measured = m.back_measured;
-                follow = on.follow;
-                stand = stand-back pulses m.front m.back (subst (λ (l : List SlotEdge). AllStandIn pulses l) m.is are.stand);
-                whole = refl;
-                pulses_recorded = subst (λ (l : List IdealEdge). AreRecorded s.jitter (ideal_times l) pulses) (pulses-part s f sent missing part) are.pulses_recorded;
-              })
-              (record { past = NoneSeen refl; none_later = λ k less. on.same k ∙ are.none k }) in
+          (record {
+            recorded = p.recorded;
+            measured = m.back_measured;
+            follow = on.follow;
+            stand = stand-back pulses m.front m.back (subst (λ (l : List SlotEdge). AllStandIn pulses l) m.is are.stand);
+            whole = refl;
+            pulses_recorded = subst (λ (l : List IdealEdge). AreRecorded s.jitter (ideal_times l) pulses) (pulses-part s f sent missing part) are.pulses_recorded;
+          })
+          (record { past = NoneSeen refl; none_later = λ k less. on.same k ∙ are.none k }) in
           let all = m.front ++ m.back in
           let changes : changes_in m.back ≡ drop n (changes_in all) = sym (ap (λ k. drop k (changes_in all)) long ∙ drop-mapped (λ (e : SlotEdge). e.change) m.front m.back) in
           let told : told_in m.back ≡ drop n (told_in all) = sym (ap (λ k. drop k (told_in all)) long ∙ drop-mapped (λ (e : SlotEdge). has_sync e.history) m.front m.back) in
           let frames : heard_from s 0 messages (changes_in m.back) (told_in m.back) ≡ heard_from s (suc missing) (message ∷ messages) (changes_in all) (told_in all) =
-              ap₂ (heard_from s 0 messages) changes told ∙ next_missing s missing message messages (changes_in all) (told_in all) 0 n (omega (arith, part)) refl in
+          ap₂ (heard_from s 0 messages) changes told ∙ next_missing s missing message messages (changes_in all) (told_in all) 0 n (omega (arith, part)) refl in
           subst (λ (l : List SlotEdge). ArePlaced sync.windows l (heard_from s (suc missing) (message ∷ messages) (changes_in l) (told_in l))) (sym m.is)
           (subst (λ (l : List SlotEdge). AllZip (IsPlaced sync.windows) l (heard_from s (suc missing) (message ∷ messages) (changes_in all) (told_in all))) (sym (loud-starting m.front m.back loud))
           (subst (λ (l : List HeardFrame). ArePlaced sync.windows m.back l) frames heard))
@@ -158,12 +157,12 @@ line-placed s sync messages edges (opening ∷ line) h is measured =
     }) in
     let changes : changes_after s.bit time line ≡ changes_in marked = measured-changes s.bit time line marked measured in
     let few : length (changes_in marked) ≤ recorded_in (Some sync) edges =
-        omega (arith, ap length changes, length-changes_after s.bit time line, ap (λ l. length (behind_opening l)) is) in
+    omega (arith, ap length changes, length-changes_after s.bit time line, ap (λ l. length (behind_opening l)) is) in
     let same : heard_from s h.left_out (map message_of h.sent) (changes_in marked) (told_in marked)
-        ≡ heard_from s (edges_in s messages - recorded_in (Some sync) edges) messages (changes_after s.bit time line) (told_in marked) =
-        ap (λ l. heard_from s h.left_out l (changes_in marked) (told_in marked)) h.carries
-        ∙ same_missing s messages h.left_out (recorded_in (Some sync) edges) (changes_in marked) (told_in marked) (recorded-all s (Some sync) messages edges h) few
-        ∙ ap (λ l. heard_from s (edges_in s messages - recorded_in (Some sync) edges) messages l (told_in marked)) (sym changes) in
+    ≡ heard_from s (edges_in s messages - recorded_in (Some sync) edges) messages (changes_after s.bit time line) (told_in marked) =
+    ap (λ l. heard_from s h.left_out l (changes_in marked) (told_in marked)) h.carries
+    ∙ same_missing s messages h.left_out (recorded_in (Some sync) edges) (changes_in marked) (told_in marked) (recorded-all s (Some sync) messages edges h) few
+    ∙ ap (λ l. heard_from s (edges_in s messages - recorded_in (Some sync) edges) messages l (told_in marked)) (sym changes) in
     subst (λ (l : List HeardFrame). ArePlaced sync.windows marked l) same placed
 
 pub placed-line : (s : Settings) (sync : SyncWindows) (messages : List Psi5Message) (edges : List NumberedEdge) → IsHonest s (Some sync) messages edges

@@ -1,7 +1,7 @@
 -- Where the frames of a train with slots begin, all of whose edges are recorded.
 --     frame_placed      one frame
 --     slots_heard      all of them
-use Rattle.std.proofs.Common.{◌≡◌, ℕ, zero, suc, ◌+◌, ◌-◌, ◌*◌, ◌≤◌, ◌<◌, Bool, true, false, ◌&&◌, ◌||◌, cond, if◌then◌else◌, Option, None, Some, List, [], ◌∷◌, ◌++◌, length, map, drop, refl, sym, ◌∙◌, ap, ap₂, subst, append_assoc, append-nil, arith}
+use Rattle.std.proofs.Common.{◌≡◌, ℕ, suc, ◌+◌, ◌-◌, ◌*◌, ◌≤◌, ◌<◌, Bool, true, false, ◌&&◌, cond, if◌then◌else◌, Option, Some, List, [], ◌∷◌, ◌++◌, length, map, drop, refl, sym, ◌∙◌, ap, ap₂, subst, append_assoc, append-nil, arith}
 use Rattle.std.specs.Option.{IfSome}
 use Rattle.std.specs.List.{filter, AllZip}
 use Rattle.std.proofs.lemmas.List.{length-append}
@@ -9,10 +9,9 @@ use Rattle.std.proofs.lemmas.Nat.{mul-le}
 use Rattle.line_base.specs.declared.edge.Span.{Span}
 use Rattle.line_base.specs.Edges.{NumberedEdge}
 use Rattle.psi5_frame.specs.Setup.{Settings, bit_count}
-use Rattle.psi5_frame.specs.Edges.{Change, change_at, changes_after}
+use Rattle.psi5_frame.specs.Edges.{Change, changes_after}
 use Rattle.psi5_frame.specs.Frames.{frame_of, waveform}
 use Rattle.psi5_frame.specs.Bursts.{begins, has_start}
-use Rattle.psi5_slots.specs.declared.placed.Placed.{Placed}
 use Rattle.psi5_slots.specs.declared.placed.Placed.TheVariants.{Before, Slot}
 use Rattle.psi5_slots.specs.History.{Event, has_sync, is_answered, starts_since, offsets_from, placed_in}
 use Rattle.psi5_slots.specs.History.Event.{Start}
@@ -20,7 +19,7 @@ use Rattle.psi5_slots.specs.Meanings.{window_at}
 use Rattle.psi5_slots.proofs.Histories.{placed-first, placed-after}
 use Rattle.tolerance.specs.Recorded.{IsRecorded, AreRecorded}
 use Rattle.psi5_tolerance.specs.Lines.{SyncWindows}
-use Rattle.psi5_tolerance.specs.Trains.{Psi5Message, Sync, Burst as Sent, FrameSent, Sending, SyncAt, FrameAt, message_of, IdealEdge, edges_sent, ideal_edges, SentBefore, end_of, sent_with, IsFrameSent, IsTrainBehind}
+use Rattle.psi5_tolerance.specs.Trains.{Psi5Message, FrameSent, Sending, SyncAt, FrameAt, message_of, IdealEdge, edges_sent, ideal_edges, SentBefore, end_of, sent_with, IsFrameSent, IsTrainBehind}
 use Rattle.psi5_tolerance.specs.Traces.{on_data, on_sync, ideal_times}
 use Rattle.psi5_tolerance.specs.FromFirst.{HeardFrame, edge_count, number_at, heard_frame, heard_from}
 use Rattle.psi5_tolerance.specs.Places.{SlotEdge, start_of}
@@ -129,15 +128,15 @@ pub record Stands (jitter : ℕ) (windows : List Span) (before : SentBefore) (do
 past-same : (jitter : ℕ) (windows : List Span) (before : SentBefore) (done : List ℕ) (history other : List Event) → ((count : ℕ) → starts_at count other ≡ starts_at count history) → Past jitter windows before done history → Past jitter windows before done other
 past-same jitter windows before done history other same (NoneSeen none) = NoneSeen none
 past-same jitter windows before done history other same (LastSeen h) = LastSeen (record {
-      front = h.front;
-      last = h.last;
-      pulse = h.pulse;
-      is = h.is;
-      sync_is = h.sync_is;
-      at = h.at;
-      bounded = h.bounded;
-      starts = subst (λ (l : List ℕ). StartsTo windows before.slot h.last l) (sym (same (length done))) h.starts;
-    })
+  front = h.front;
+  last = h.last;
+  pulse = h.pulse;
+  is = h.is;
+  sync_is = h.sync_is;
+  at = h.at;
+  bounded = h.bounded;
+  starts = subst (λ (l : List ℕ). StartsTo windows before.slot h.last l) (sym (same (length done))) h.starts;
+})
 
 pub stands-same : (jitter : ℕ) (windows : List Span) (before : SentBefore) (done : List ℕ) (history other : List Event) → ((count : ℕ) → starts_at count other ≡ starts_at count history) → Stands jitter windows before done history → Stands jitter windows before done other
 stands-same jitter windows before done history other same stands = record {
@@ -160,15 +159,15 @@ stands-pulse s windows before done history pulse r stands later at =
     let more : length (done ++ r ∷ []) ≡ suc (length done) = length-append done (r ∷ []) ∙ omega arith in
     record {
       past = LastSeen (record {
-            front = done;
-            last = r;
-            pulse = pulse;
-            is = refl;
-            sync_is = refl;
-            at = at;
-            bounded = push_bound s.jitter windows before done history pulse r stands.past later at;
-            starts = stands.none_later (length (done ++ r ∷ [])) (omega (arith, more));
-          });
+        front = done;
+        last = r;
+        pulse = pulse;
+        is = refl;
+        sync_is = refl;
+        at = at;
+        bounded = push_bound s.jitter windows before done history pulse r stands.past later at;
+        starts = stands.none_later (length (done ++ r ∷ [])) (omega (arith, more));
+      });
       none_later = λ count less. stands.none_later count (omega (arith, more, less));
     }
 
@@ -276,15 +275,15 @@ placed_by s sync before f edge done history may w at same between none_later (La
           (starts-last edge.history ∙ ap (λ l. starts_at (length l) edge.history) same) starts timely.not_early timely.not_late;
       next = record {
         past = LastSeen (record {
-              front = h.front;
-              last = h.last;
-              pulse = h.pulse;
-              is = h.is;
-              sync_is = h.sync_is;
-              at = h.at;
-              bounded = h.bounded;
-              starts = has_starts s sync before f edge done h.last may w (ap length (sym same)) timely.not_late starts;
-            });
+          front = h.front;
+          last = h.last;
+          pulse = h.pulse;
+          is = h.is;
+          sync_is = h.sync_is;
+          at = h.at;
+          bounded = h.bounded;
+          starts = has_starts s sync before f edge done h.last may w (ap length (sym same)) timely.not_late starts;
+        });
         none_later = λ count less. none_beyond edge done count (subst (λ (l : List ℕ). length l < count) (sym same) less) (between-starts history edge.history count between ∙ none_later count less);
       };
     }
@@ -376,9 +375,9 @@ with_frame s windows f messages edge later back number slot_is rises place none 
     let all = edge ∷ (later ++ back) in
     let n = edge_count s (message_of (FrameAt f)) in
     let heard : heard_from s 0 (message_of (FrameAt f) ∷ messages) (changes_in all) (told_in all) ≡ heard_frame n f.slot f.payload (changes_in all) (told_in all) ++ heard_from s 0 messages (changes_in back) (told_in back) =
-        first_frame s f.slot f.payload messages (changes_in all) (told_in all)
-        ∙ ap₂ (λ c t. heard_frame n f.slot f.payload (changes_in all) (told_in all) ++ heard_from s 0 messages c t)
-        (ap (λ k. drop k (changes_in all)) count ∙ drop-mapped (λ (e : SlotEdge). e.change) later back) (ap (λ k. drop k (told_in all)) count ∙ drop-mapped (λ (e : SlotEdge). has_sync e.history) later back) in
+    first_frame s f.slot f.payload messages (changes_in all) (told_in all)
+    ∙ ap₂ (λ c t. heard_frame n f.slot f.payload (changes_in all) (told_in all) ++ heard_from s 0 messages c t)
+    (ap (λ k. drop k (changes_in all)) count ∙ drop-mapped (λ (e : SlotEdge). e.change) later back) (ap (λ k. drop k (told_in all)) count ∙ drop-mapped (λ (e : SlotEdge). has_sync e.history) later back) in
     let starts : starting all ≡ cond (begins edge.change) (edge ∷ starting back) (starting back) = ap (λ l. cond (begins edge.change) (edge ∷ l) l) (loud-starting later back none) in
     let frame : HeardFrame = record { first = edge.change.number; last = number_at (changes_in all) (n - 1); is_told = has_sync edge.history; slot = f.slot; payload = f.payload } in
     let placed : IsPlaced windows edge frame = record { rises = rises; number = refl; told = refl; slot = number; slot_is = slot_is; place = place } in

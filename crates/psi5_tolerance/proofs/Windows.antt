@@ -2,12 +2,11 @@
 --     windows-accepted      they are long, and lie one behind the other
 --     window-low, window-long, window-behind      a window, and one behind it
 --     placed-there      a start in a window that none before it lies in
-use Rattle.std.proofs.Common.{◌≡◌, ℕ, zero, suc, ◌+◌, ◌-◌, ◌*◌, ◌≤◌, ◌<◌, Bool, true, false, nat_lt, nat_le, ◌&&◌, if◌then◌else◌, Option, None, Some, List, [], ◌∷◌, ◌++◌, length, refl, sym, ◌∙◌, ap, subst, arith}
+use Rattle.std.proofs.Common.{◌≡◌, ℕ, zero, suc, ◌+◌, ◌-◌, ◌*◌, ◌≤◌, ◌<◌, true, false, Option, None, Some, List, [], ◌∷◌, ◌++◌, length, refl, sym, ◌∙◌, ap, subst, arith}
 use Rattle.std.specs.Option.{IfSome}
 use Rattle.std.proofs.lemmas.Bool.Decides.{nat_tests}
 use Rattle.std.proofs.lemmas.Bool.{le-ltb}
 use Rattle.line_base.specs.declared.edge.Span.{Span}
-use Rattle.line_base.specs.Spans.{is_in}
 use Rattle.link_math.proofs.Thresholds.{both_le, first_above, second_above}
 use Rattle.psi5_frame.specs.Setup as frames
 use Rattle.psi5_slots.specs.declared.placed.Placed.TheVariants.{Slot}

@@ -1,5 +1,5 @@
 -- Which frames of a trace are read, from the first on whose first edge is recorded behind a quiet interval and, where there are slots, behind a sync pulse; this project's own.
-use Rattle.std.specs.Prelude.{ℕ, zero, suc, ◌+◌, ◌-◌, Bool, false, Option, List, [], ◌∷◌, ◌++◌, length, map, drop, slice_index, slice_index_or, if◌then◌else◌}
+use Rattle.std.specs.Prelude.{◌≡◌, ℕ, zero, suc, ◌+◌, ◌-◌, Bool, false, Option, List, [], ◌∷◌, ◌++◌, length, map, drop, slice_index, slice_index_or, if◌then◌else◌}
 use Rattle.std.specs.List.{filter, sum_by}
 use Rattle.line_base.specs.Edges.{NumberedEdge}
 use Rattle.psi5_frame.specs.declared.burst.Payload.{Payload}
@@ -65,3 +65,19 @@ from_first s sync messages edges = filter (λ (f : HeardFrame). f.is_told) (hear
 -- what the burst of a frame says: its payload, at its last edge
 abbrev pub good_burst : HeardFrame → Burst
 good_burst f = Good f.last f.payload
+
+-- ---- none is missing behind the first
+-- the bursts among these messages
+abbrev pub bursts_in : List Psi5Message → List Psi5Message
+bursts_in [] = []
+bursts_in (Sync ∷ messages) = bursts_in messages
+bursts_in (Sent slot payload ∷ messages) = Sent slot payload ∷ bursts_in messages
+
+-- the message that a frame says
+abbrev pub said : HeardFrame → Psi5Message
+said f = Sent f.slot f.payload
+
+-- all of these messages but the first so many
+pub record IsRestOf (rest whole : List Psi5Message) : Type 0 where
+  pub passed : ℕ
+  pub is : rest ≡ drop passed whole

@@ -6,7 +6,7 @@ ghost use Rattle.psi5_frame.specs.Bursts.{burst_starts, bursts_at_end};
 ghost use Rattle.psi5_frame.specs.Intervals.{is_quiet};
 ghost use Rattle.psi5_frame.specs.Setup.{Settings, fault_of};
 ghost use Rattle.tolerance.specs.Recorded.{IsRecorded};
-ghost use Rattle.psi5_tolerance.specs.FromFirst.{HeardFrame, from_first, good_burst, heard_of};
+ghost use Rattle.psi5_tolerance.specs.FromFirst.{HeardFrame, IsRestOf, bursts_in, from_first, good_burst, heard_of, said};
 ghost use Rattle.psi5_tolerance.specs.Lines.{SyncWindows, data_edges};
 ghost use Rattle.psi5_tolerance.specs.Places.{place_of, slot_places};
 ghost use Rattle.psi5_tolerance.specs.Traces.{IsHonest};
@@ -49,4 +49,11 @@ pub fn honest_bursts_are_read()
 pub fn honest_bursts_are_in_their_slots()
     ensures { (s : Settings) (sync : SyncWindows) (messages : List Psi5Message) (edges : List NumberedEdge) → IsHonest s (Some sync) messages edges
         → slot_places s sync edges ≡ map place_of (heard_of s (Some sync) messages edges) }
+{}
+
+/// Does nothing; its contract is a law. Behind the first frame that is told none is missing: what is told are
+/// all the frames that were sent, but for the first so many.
+pub fn no_frame_is_missing()
+    ensures { (s : Settings) (sync : Option SyncWindows) (messages : List Psi5Message) (edges : List NumberedEdge) → IsHonest s sync messages edges
+        → IsRestOf (map said (from_first s sync messages edges)) (bursts_in messages) }
 {}
