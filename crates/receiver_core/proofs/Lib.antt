@@ -20,3 +20,4 @@ pub mod Tallies
 pub mod NoGaps
 pub mod SentTraces
 pub mod Traces
+pub mod Psi5Traces

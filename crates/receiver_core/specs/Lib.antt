@@ -16,3 +16,4 @@ pub mod Psi5Stretches
 pub mod Psi5Meanings
 pub mod SpcReports
 pub mod ToothReports
+pub mod Psi5Traces

@@ -1,0 +1,14 @@
+pub mod Intervals
+pub mod RecordedFrames
+pub mod HeardFrames
+pub mod CutTrains
+pub mod DataLines
+pub mod ExactTraces
+pub mod Windows
+pub mod Pulses
+pub mod SlotEdges
+pub mod SlotTrains
+pub mod SlotLines
+pub mod FreeFrames
+pub mod BoundedTrains
+pub mod RestOfFrames
