@@ -1,0 +1,4 @@
+pub mod HeardPeriods
+pub mod FrameBits
+pub mod ReadFrames
+pub mod ReadTrains

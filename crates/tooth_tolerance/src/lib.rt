@@ -1,0 +1,16 @@
+//! Honest traces of a PSI5 line's tooth-gap downlink: messages as a control unit sends them (PSI5 V2.1, base
+//! standard), with ideal times in ps and periods that are off by up to a twentieth, and the rises that are
+//! recorded of them in ns, with jitter. What is read of such a trace is exactly its messages, from the first on
+//! whose gap is recorded.
+//!
+//! The jitter model and the bounds are this project's own. The crate has laws alone: its functions do nothing,
+//! and their contracts say what holds.
+#![tactic(auto)]
+
+mod bounds;
+mod honest;
+
+pub use bounds::{gaps_miss_five_pulses, intervals_end_at_a_twentieth};
+pub use honest::{
+    honest_downlinks_are_read, nominal_downlinks_are_honest, silent_lines_are_honest,
+};
