@@ -2,3 +2,4 @@ pub mod HeardPeriods
 pub mod FrameBits
 pub mod ReadFrames
 pub mod ReadTrains
+pub mod NominalTrains

@@ -1,7 +1,7 @@
 -- What is read of a frame behind its gap.
 --     read_one, read_gap      an interval outside a frame
 --     read_frame      a frame whose intervals are heard is reported at the rise that ends the last of them
-use Rattle.std.proofs.Common.{◌≡◌, ℕ, zero, suc, ◌+◌, ◌-◌, ◌<◌, ◌≤◌, Bool, true, false, List, [], ◌∷◌, ◌++◌, length, map, drop, replicate, slice_index, refl, sym, ◌∙◌, ap, subst, append_assoc, append-nil, arith}
+use Rattle.std.proofs.Common.{◌≡◌, ℕ, zero, suc, ◌-◌, Bool, true, false, List, [], ◌∷◌, ◌++◌, length, map, drop, replicate, slice_index, refl, sym, ◌∙◌, ap, append_assoc, arith}
 use Rattle.std.proofs.lemmas.Bool.{ne_eqb}
 use Rattle.psi5_downlink.specs.declared.down.Form.{Form}
 use Rattle.psi5_downlink.specs.declared.down.Down.{Down}
@@ -10,7 +10,7 @@ use Rattle.psi5_downlink.specs.declared.step.ToothStep.TheVariants.{Good}
 use Rattle.psi5_downlink.specs.declared.verdict.Verdict.TheVariants.{Unfinished, Whole}
 use Rattle.psi5_downlink.specs.declared.reader.State.TheVariants.{Outside, Within}
 use Rattle.psi5_downlink.specs.Frames.{Fits, frame_of}
-use Rattle.psi5_downlink.specs.Reading.{bits_in, forbidden, judged, verdict}
+use Rattle.psi5_downlink.specs.Reading.{forbidden, judged, verdict}
 use Rattle.psi5_downlink.specs.Rises.{Interval}
 use Rattle.psi5_downlink.specs.Kept.{reading_on}
 use Rattle.psi5_downlink.proofs.FrameLaws.{frame_is_whole}

@@ -1,5 +1,5 @@
 -- What a control unit sends on a sync line: pulses that are there or missing (the method: PSI5 V2.1, base standard). The forms of the frames and all bounds are this project's own.
-use Rattle.std.specs.Prelude.{◌≡◌, ℕ, zero, suc, ◌+◌, ◌*◌, ◌≤◌, Bool, true, false, List, [], ◌∷◌, ◌++◌, All, flat_map, map, replicate}
+use Rattle.std.specs.Prelude.{ℕ, zero, suc, ◌+◌, ◌*◌, ◌≤◌, Bool, true, false, List, [], ◌∷◌, ◌++◌, All, flat_map, replicate}
 use Rattle.psi5_downlink.specs.declared.down.Form.{Form}
 use Rattle.psi5_downlink.specs.declared.down.Down.{Down}
 use Rattle.psi5_downlink.specs.Frames.{Fits, frame_of}

@@ -1,13 +1,14 @@
 //! What is read of an honest trace, and that there are honest traces of all messages.
-ghost use Rattle.std.specs.Prelude.{◌≡◌, ℕ, ◌≤◌, None, Option, List, [], All};
+ghost use Rattle.std.specs.Prelude.{◌≡◌, ℕ, ◌≤◌, None, Option, List, [], All, drop, map, take};
 ghost use Rattle.psi5_downlink.specs.declared.down.Down.{Down};
 ghost use Rattle.psi5_downlink.specs.Frames.{Fits};
 ghost use Rattle.psi5_downlink.specs.Reading.{tooth_reading};
 ghost use Rattle.psi5_downlink.specs.Rises.{Rise};
 ghost use Rattle.psi5_downlink.specs.Setup.{Settings, fault_of};
 ghost use Rattle.tooth_tolerance.specs.FromFirst.{from_first};
-ghost use Rattle.tooth_tolerance.specs.Nominal.{nominal_rises};
-ghost use Rattle.tooth_tolerance.specs.Traces.{IsHonest};
+ghost use Rattle.tooth_tolerance.specs.Nominal.{nominal_rises, rises_at, told_in_ns};
+ghost use Rattle.tooth_tolerance.specs.Traces.{IsHonest, OpensBehind};
+ghost use Rattle.tooth_tolerance.specs.Trains.{IsTrain, Lasts, Sending, Span, ideal_rises, train_periods};
 
 /// Does nothing; its contract is a law. What is read of an honest trace is exactly the messages that were sent,
 /// from the first on whose gap lies between two recorded rises: each is reported as good at the rise that ends
@@ -17,12 +18,21 @@ pub fn honest_downlinks_are_read()
         → tooth_reading setup rises ≡ from_first setup messages rises }
 {}
 
-/// Does nothing; its contract is a law. Messages that fit and are sent with exactly the nominal period, with the
-/// shortest gaps, and are recorded with no jitter are an honest trace, wherever the line is opened before that.
+/// Does nothing; its contract is a law. Messages that fit and are sent with exactly the nominal period and with
+/// the shortest gaps are an honest trace if they are recorded with no jitter.
 pub fn nominal_downlinks_are_honest()
     ensures { (setup : Settings) (opening : Option ℕ) (start idle : ℕ) (messages : List Down) → fault_of setup.period setup.jitter ≡ None
         → All (Fits setup.form) messages → 1 ≤ idle
         → IsHonest setup messages opening (nominal_rises setup start idle messages) }
+{}
+
+/// Does nothing; its contract is a law. However long the intervals last, messages have an honest trace: that of an
+/// exact clock, which tells whole ns; and the line may be opened at any time.
+pub fn trains_have_honest_traces()
+    ensures { (setup : Settings) (opening : Option ℕ) (start idle left_out : ℕ) (sent : List Sending) (spans : List Span) → fault_of setup.period setup.jitter ≡ None
+        → IsTrain setup.form sent → map (λ (span : Span). span.periods) spans ≡ train_periods setup.form sent idle → All (Lasts setup.period) spans
+        → OpensBehind setup.jitter opening (take left_out (ideal_rises start spans))
+        → IsHonest setup (map (λ (sending : Sending). sending.down) sent) opening (rises_at 1 (told_in_ns (drop left_out (ideal_rises start spans)))) }
 {}
 
 /// Does nothing; its contract is a law. A line with no rise behind its opening is an honest trace of no message.

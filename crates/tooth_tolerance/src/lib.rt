@@ -13,4 +13,5 @@ mod honest;
 pub use bounds::{gaps_miss_five_pulses, intervals_end_at_a_twentieth};
 pub use honest::{
     honest_downlinks_are_read, nominal_downlinks_are_honest, silent_lines_are_honest,
+    trains_have_honest_traces,
 };
