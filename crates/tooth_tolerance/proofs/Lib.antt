@@ -3,3 +3,4 @@ pub mod FrameBits
 pub mod ReadFrames
 pub mod ReadTrains
 pub mod NominalTrains
+pub mod WorkedTrace

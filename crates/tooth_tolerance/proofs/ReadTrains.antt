@@ -3,10 +3,11 @@
 --     read_whole      messages from the first of their rises on
 --     read_from      messages from any rise on
 --     read_honest      an honest trace
-use Rattle.std.proofs.Common.{◌≡◌, ℕ, zero, suc, ◌+◌, ◌-◌, ◌<◌, ◌≤◌, ◌⊎◌, Option, List, [], ◌∷◌, ◌++◌, length, map, drop, flat_map, replicate, inl, inr, refl, sym, ◌∙◌, ap, subst, append_assoc, append-nil, arith}
+--     says_last, says_all      the messages that are read
+use Rattle.std.proofs.Common.{◌≡◌, ℕ, zero, suc, ◌+◌, ◌-◌, ◌<◌, ◌≤◌, ◌⊎◌, Bool, true, false, nat_eq, if◌then◌else◌, Option, List, [], ◌∷◌, ◌++◌, length, map, drop, flat_map, replicate, inl, inr, refl, sym, ◌∙◌, ap, subst, append_assoc, append-nil, arith}
 use Rattle.std.specs.List.{All}
 use Rattle.std.proofs.lemmas.Bool.{cases_lt, eq-eqb, ne_eqb}
-use Rattle.std.proofs.lemmas.List.{drop-append-le, length-replicate}
+use Rattle.std.proofs.lemmas.List.{drop-append-le, length-drop, length-replicate}
 use Rattle.std.proofs.lemmas.List.Elements.{All-cons, All-head, All-nil, All-tail}
 use Rattle.std.proofs.Math.Seq.{drop-append-add}
 use Rattle.line_base.specs.Readings.{read_past}
@@ -17,10 +18,10 @@ use Rattle.psi5_downlink.specs.Setup.{Settings}
 use Rattle.psi5_downlink.specs.Reading.{interval_reading, tooth_reading}
 use Rattle.psi5_downlink.specs.Rises.{Interval, Rise, intervals_of}
 use Rattle.psi5_downlink.specs.Kept.{reading_on}
-use Rattle.tooth_tolerance.specs.FromFirst.{from_first, gap_count, good_behind, goods_in, last_goods}
+use Rattle.tooth_tolerance.specs.FromFirst.{from_first, gap_count, good_behind, goods_in, last_goods, said}
 use Rattle.tooth_tolerance.specs.Traces.{IsHonest}
 use Rattle.tooth_tolerance.specs.Trains.{IsSent, IsTrain, Sending, frame_periods, message_periods, train_periods}
-use Rattle.tooth_tolerance.proofs.HeardPeriods.{AreHeard, heard_cut, setup_range}
+use Rattle.tooth_tolerance.proofs.HeardPeriods.{AreHeard, counts_of, heard_cut, setup_range}
 use Rattle.tooth_tolerance.proofs.FrameBits.{AreFew, frame_few}
 use Rattle.tooth_tolerance.proofs.ReadFrames.{read_frame, read_other}
 
@@ -209,3 +210,36 @@ read_honest s messages opening rises honest =
     (subst (λ (counts : List ℕ). AreHeard (drop honest.left_out counts) intervals) honest.periods heard) in
     let missing : read.missing ≡ length (downs_of honest.sent) - gap_count intervals = omega (arith, read.gaps) in
     read.reads ∙ ap (λ n. goods_in s.form (drop n (downs_of honest.sent)) intervals) missing ∙ ap (λ downs. last_goods s.form downs intervals) honest.carries
+
+-- ---- the messages that are read
+goods_say : (form : Form) (downs : List Down) (intervals : List Interval) → length downs ≤ gap_count intervals → flat_map said (goods_in form downs intervals) ≡ downs
+unfolding goods_in gap_count
+goods_say form [] intervals enough = refl
+goods_say form (down ∷ downs) [] enough = absurd (omega (arith, enough))
+goods_say form (down ∷ downs) (interval ∷ intervals) enough =
+    by_test (nat_eq interval.periods 6) (λ more. goods_say form downs intervals more) (λ more. goods_say form (down ∷ downs) intervals more) enough
+  where
+    by_test : (six : Bool) → (length downs ≤ gap_count intervals → flat_map said (goods_in form downs intervals) ≡ downs)
+        → (suc (length downs) ≤ gap_count intervals → flat_map said (goods_in form (down ∷ downs) intervals) ≡ down ∷ downs)
+        → suc (length downs) ≤ (if six then suc (gap_count intervals) else gap_count intervals)
+        → flat_map said (if six then good_behind form down interval intervals ∷ goods_in form downs intervals else goods_in form (down ∷ downs) intervals) ≡ down ∷ downs
+    by_test true one same more = ap (λ l. down ∷ l) (one (omega (arith, more)))
+    by_test false one same more = same more
+
+pub says_last : (s : Settings) (messages : List Down) (opening : Option ℕ) (rises : List Rise) → IsHonest s messages opening rises
+    → flat_map said (tooth_reading s rises) ≡ drop (length messages - gap_count (intervals_of s.period rises)) messages
+says_last s messages opening rises honest =
+    let intervals = intervals_of s.period rises in
+    let first = length messages - gap_count intervals in
+    ap (flat_map said) (read_honest s messages opening rises honest)
+    ∙ goods_say s.form (drop first messages) intervals (omega (arith, length-drop first messages))
+
+pub says_all : (s : Settings) (messages : List Down) (opening : Option ℕ) (rises : List Rise) (honest : IsHonest s messages opening rises) → honest.left_out ≡ 0 → flat_map said (tooth_reading s rises) ≡ messages
+unfolding tooth_reading reading_on
+says_all s messages opening rises honest none =
+    let intervals = intervals_of s.period rises in
+    let downs = downs_of honest.sent in
+    let heard = heard_cut s.period s.jitter (setup_range s.period s.jitter honest.accepted) honest.start honest.left_out honest.spans rises honest.lasting honest.recorded in
+    let whole = subst (λ (cut : ℕ). AreHeard (drop cut (counts_of honest.spans)) intervals) none heard in
+    let read = read_whole s.form honest.sent (all_sent s.form honest.sent honest.train) honest.idle intervals (subst (λ (counts : List ℕ). AreHeard counts intervals) honest.periods whole) in
+    ap (flat_map said) read.reads ∙ goods_say s.form downs intervals (omega (arith, read.gaps)) ∙ honest.carries

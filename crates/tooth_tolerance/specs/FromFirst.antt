@@ -3,7 +3,7 @@ use Rattle.std.specs.Prelude.{ℕ, suc, ◌-◌, List, [], ◌∷◌, drop, leng
 use Rattle.psi5_downlink.specs.declared.down.Form.{Form}
 use Rattle.psi5_downlink.specs.declared.down.Down.{Down}
 use Rattle.psi5_downlink.specs.declared.step.ToothStep.{ToothStep}
-use Rattle.psi5_downlink.specs.declared.step.ToothStep.TheVariants.{Good}
+use Rattle.psi5_downlink.specs.declared.step.ToothStep.TheVariants.{Nothing, Good, Bad}
 use Rattle.psi5_downlink.specs.Setup.{Settings}
 use Rattle.psi5_downlink.specs.Rises.{Interval, Rise, intervals_of}
 use Rattle.tooth_tolerance.specs.Trains.{frame_periods}
@@ -32,3 +32,9 @@ last_goods form messages intervals = goods_in form (drop (length messages - gap_
 -- the reports of the messages whose gaps lie between recorded rises
 abbrev pub from_first : Settings → List Down → List Rise → List ToothStep
 from_first s messages rises = last_goods s.form messages (intervals_of s.period rises)
+
+-- what a step reports as good
+abbrev pub said : ToothStep → List Down
+said Nothing = []
+said (Good place down) = down ∷ []
+said (Bad place rule) = []

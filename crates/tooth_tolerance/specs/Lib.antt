@@ -2,3 +2,4 @@ pub mod Trains
 pub mod Traces
 pub mod FromFirst
 pub mod Nominal
+pub mod Worked

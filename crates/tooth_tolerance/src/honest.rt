@@ -1,11 +1,11 @@
 //! What is read of an honest trace, and that there are honest traces of all messages.
-ghost use Rattle.std.specs.Prelude.{◌≡◌, ℕ, ◌≤◌, None, Option, List, [], All, drop, map, take};
+ghost use Rattle.std.specs.Prelude.{◌≡◌, ℕ, ◌-◌, ◌≤◌, None, Option, List, [], All, drop, flat_map, length, map, take};
 ghost use Rattle.psi5_downlink.specs.declared.down.Down.{Down};
 ghost use Rattle.psi5_downlink.specs.Frames.{Fits};
 ghost use Rattle.psi5_downlink.specs.Reading.{tooth_reading};
-ghost use Rattle.psi5_downlink.specs.Rises.{Rise};
+ghost use Rattle.psi5_downlink.specs.Rises.{Rise, intervals_of};
 ghost use Rattle.psi5_downlink.specs.Setup.{Settings, fault_of};
-ghost use Rattle.tooth_tolerance.specs.FromFirst.{from_first};
+ghost use Rattle.tooth_tolerance.specs.FromFirst.{from_first, gap_count, said};
 ghost use Rattle.tooth_tolerance.specs.Nominal.{nominal_rises, rises_at, told_in_ns};
 ghost use Rattle.tooth_tolerance.specs.Traces.{IsHonest, OpensBehind};
 ghost use Rattle.tooth_tolerance.specs.Trains.{IsTrain, Lasts, Sending, Span, ideal_rises, train_periods};
@@ -16,6 +16,15 @@ ghost use Rattle.tooth_tolerance.specs.Trains.{IsTrain, Lasts, Sending, Span, id
 pub fn honest_downlinks_are_read()
     ensures { (setup : Settings) (messages : List Down) (opening : Option ℕ) (rises : List Rise) → IsHonest setup messages opening rises
         → tooth_reading setup rises ≡ from_first setup messages rises }
+{}
+
+/// Does nothing; its contract is a law. Of an honest trace as many messages are read as it has intervals of six
+/// periods, the last ones that were sent; and all of them, where no rise was left out.
+pub fn recorded_gaps_are_read()
+    ensures as_many { (setup : Settings) (messages : List Down) (opening : Option ℕ) (rises : List Rise) → IsHonest setup messages opening rises
+        → flat_map said (tooth_reading setup rises) ≡ drop (length messages - gap_count (intervals_of setup.period rises)) messages }
+    ensures all { (setup : Settings) (messages : List Down) (opening : Option ℕ) (rises : List Rise) (honest : IsHonest setup messages opening rises) → honest.left_out ≡ 0
+        → flat_map said (tooth_reading setup rises) ≡ messages }
 {}
 
 /// Does nothing; its contract is a law. Messages that fit and are sent with exactly the nominal period and with
