@@ -1,6 +1,7 @@
 -- How many periods are heard in the intervals between recorded rises.
 --     setup_range      the bounds of a setup that is accepted
---     AreHeard      up to four periods are heard as they are, and six or more as six
+--     span_heard      what is heard of one interval
+--     AreHeard      up to five periods are heard as they are, and six or more as six
 --     heard_cut      so it is between recorded rises, but for the first ones
 use Rattle.std.proofs.Common.{◌≡◌, ℕ, zero, suc, ◌+◌, ◌-◌, ◌*◌, ◌/◌, ◌<◌, ◌≤◌, None, List, [], ◌∷◌, map, drop, sym, ◌∙◌, subst, arith}
 use Rattle.std.specs.List.{All}
@@ -11,7 +12,7 @@ use Rattle.std.proofs.lemmas.Nat.{mul-le}
 use Rattle.std.proofs.Math.Nat.{div-eq_of_lt-le, le-div_iff_mul-le}
 use Rattle.link_math.specs.Periods.{periods_in}
 use Rattle.link_math.proofs.Periods.{most, rounded}
-use Rattle.psi5_downlink.specs.Setup.{InRange, fault_of}
+use Rattle.psi5_downlink.specs.Setup.{InRange, Settings, fault_of}
 use Rattle.psi5_downlink.specs.Rises.{Interval, Rise, intervals_after, intervals_of}
 use Rattle.tolerance.specs.Recorded.{AreRecorded, IsHeard, IsRecorded}
 use Rattle.tolerance.proofs.HeardPulses.{heard_between}
@@ -29,14 +30,14 @@ periods_are count distance period some few low high =
 periods_most : (distance period : ℕ) → 1 ≤ period → 6 * (2 * period) ≤ 2 * distance + period → periods_in distance period ≡ 6
 periods_most distance period some low = sym (most distance period some ((le-div_iff_mul-le {k = 2 * period} {x = 6} {y = 2 * distance + period} (omega (arith, some))).1 low))
 
--- so many periods are heard of an interval that stands for so many: up to four are heard as they are, and six or more as six
+-- so many periods are heard of an interval that stands for so many: up to five are heard as they are, and six or more as six
 pub record IsHeardAs (count heard : ℕ) : Type 0 where
-  pub few : count ≤ 4 → heard ≡ count
+  pub few : count ≤ 5 → heard ≡ count
   pub many : 6 ≤ count → heard ≡ 6
 
-span_heard : (period jitter : ℕ) → InRange period jitter → (span : Span) → Lasts period span → (distance : ℕ) → IsHeard jitter span.length distance → IsHeardAs span.periods (periods_in distance period)
+pub span_heard : (period jitter : ℕ) → InRange period jitter → (span : Span) → Lasts period span → (distance : ℕ) → IsHeard jitter span.length distance → IsHeardAs span.periods (periods_in distance period)
 span_heard period jitter range span lasts distance heard = record {
-  few = λ few. (let most_periods = mul-le span.periods period 4 period few (omega arith) in
+  few = λ few. (let most_periods = mul-le span.periods period 5 period few (omega arith) in
       periods_are span.periods distance period (omega arith) (omega (arith, few)) (omega (arith, most_periods)) (omega (arith, most_periods)));
   many = λ many. (let least_periods = mul-le 6 period span.periods period many (omega arith) in periods_most distance period (omega arith) (omega (arith, least_periods)));
 }
@@ -80,3 +81,10 @@ heard_cut period jitter range start zero spans (rise ∷ rises) lasting recorded
 heard_cut period jitter range start (suc cut) [] rises lasting recorded =
     nothing_recorded period jitter rises (subst (λ (ideals : List ℕ). AreRecorded jitter ideals (times_of rises)) (drop_all cut [] (omega arith)) recorded)
 heard_cut period jitter range start (suc cut) (span ∷ spans) rises lasting recorded = heard_cut period jitter range (start + span.length) cut spans rises (All-tail (Lasts period) span spans lasting) recorded
+
+-- ---- of a setup that is accepted
+pub few_heard : (s : Settings) (span : Span) (distance : ℕ) → fault_of s.period s.jitter ≡ None → Lasts s.period span → IsHeard s.jitter span.length distance → span.periods ≤ 5 → periods_in distance s.period ≡ span.periods
+few_heard s span distance accepted lasts heard few = (span_heard s.period s.jitter (setup_range s.period s.jitter accepted) span lasts distance heard).few few
+
+pub many_heard : (s : Settings) (span : Span) (distance : ℕ) → fault_of s.period s.jitter ≡ None → Lasts s.period span → IsHeard s.jitter span.length distance → 6 ≤ span.periods → periods_in distance s.period ≡ 6
+many_heard s span distance accepted lasts heard many = (span_heard s.period s.jitter (setup_range s.period s.jitter accepted) span lasts distance heard).many many

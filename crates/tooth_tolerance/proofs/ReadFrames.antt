@@ -54,12 +54,12 @@ rest_read form down fits since (false ∷ next ∷ rest) bits is ends few more n
     rest_read form down fits (suc since) (next ∷ rest) bits (ap (λ l. bits ++ l) (sym (one_more since (next ∷ rest))) ∙ is) ends few more number intervals heard
 rest_read form down fits since (true ∷ rest) bits is ends few more number [] heard = absurd heard
 rest_read form down fits since (true ∷ []) bits is ends few more number (interval ∷ intervals) heard =
-    let count : interval.periods ≡ suc since = heard.0.few few.0 in
+    let count : interval.periods ≡ suc since = heard.0.few (omega (arith, few.0)) in
     let whole : Whole down ≡ verdict form bits interval.periods =
     sym (ap (verdict form bits) count ∙ verdict_is form bits since ∙ ap (λ l. judged form l (forbidden l)) is ∙ frame_is_whole form down fits) in
     within-on form bits interval intervals (Whole down) whole
 rest_read form down fits since (true ∷ next ∷ rest) bits is ends few more number (interval ∷ intervals) heard =
-    let count : interval.periods ≡ suc since = heard.0.few few.0 in
+    let count : interval.periods ≡ suc since = heard.0.few (omega (arith, few.0)) in
     let front = bits ++ (replicate since false ++ true ∷ []) in
     let all : front ++ next ∷ rest ≡ frame_of form down =
     append_assoc bits (replicate since false ++ true ∷ []) (next ∷ rest) ∙ ap (λ l. bits ++ l) (append_assoc (replicate since false) (true ∷ []) (next ∷ rest)) ∙ is in

@@ -54,7 +54,7 @@ passed : (form : Form) (counts more : List ℕ) (intervals : List Interval) → 
 passed form [] more intervals few heard = record { reads = refl; goods = λ downs. refl; gaps = refl }
 passed form (count ∷ counts) more [] few heard = absurd heard
 passed form (count ∷ counts) more (interval ∷ intervals) few heard =
-    let other : interval.periods ≡ 6 → ⊥ = λ six. omega (arith, heard.0.few few.0, six, few.0) in
+    let other : interval.periods ≡ 6 → ⊥ = λ six. omega (arith, heard.0.few (omega (arith, few.0)), six, few.0) in
     let rest = passed form counts more intervals few.1 heard.1 in
     record {
       reads = read_other form interval intervals other ∙ rest.reads;

@@ -9,6 +9,7 @@
 
 mod bounds;
 mod honest;
+mod intervals;
 mod worked;
 
 pub use bounds::{gaps_miss_five_pulses, intervals_end_at_a_twentieth};
@@ -16,4 +17,5 @@ pub use honest::{
     honest_downlinks_are_read, nominal_downlinks_are_honest, recorded_gaps_are_read,
     silent_lines_are_honest, trains_have_honest_traces,
 };
+pub use intervals::intervals_are_heard;
 pub use worked::a_worked_trace_is_read;
