@@ -1,0 +1,5 @@
+pub mod Trains
+pub mod Traces
+pub mod FromFirst
+pub mod Nominal
+pub mod Worked
