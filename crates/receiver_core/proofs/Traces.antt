@@ -1,7 +1,8 @@
 -- What a channel reports of an honest trace is exactly its messages, from the first whole frame on.
 --     honest-final      the final reports
 --     honest-front      those of a trace that stopped earlier
-use Rattle.std.proofs.Common.{◌≡◌, ℕ, ◌+◌, List, [], ◌∷◌, ◌++◌, map, refl, sym, ap, ap₂, subst, ◌∙◌, append-nil, append_assoc}
+use Rattle.std.proofs.Common.{◌≡◌, ℕ, ◌+◌, Option, List, [], ◌∷◌, ◌++◌, drop, flat_map, length, map, refl, sym, ap, ap₂, subst, ◌∙◌, append-nil, append_assoc}
+use Rattle.std.proofs.Math.Seq.{drop-append_seam}
 use Rattle.std.proofs.lemmas.List.{map-append}
 use Rattle.line_base.specs.Edges.{NumberedEdge}
 use Rattle.line_base.specs.Streams.{IsFrontOf}
@@ -17,6 +18,16 @@ use Rattle.receiver_core.specs.Channels.{stretch_reports, end_reports, reports_f
 use Rattle.receiver_core.specs.Traces.{IsHonest, from_first, numbered}
 use Rattle.receiver_core.proofs.ReportFronts.{final-front, so_far-front}
 use Rattle.receiver_core.proofs.SentTraces.{sent-trace}
+use Rattle.psi5_frame.specs.Setup.{Settings}
+use Rattle.psi5_downlink.specs.Setup as tooth
+use Rattle.tooth_tolerance.proofs.ReadTrains.{read_honest}
+use Rattle.receiver_core.specs.declared.setup.SyncSlots.{SyncSlots}
+use Rattle.receiver_core.specs.Psi5Reports.{burst_reports, psi5_so_far, psi5_at_end}
+use Rattle.receiver_core.specs.Psi5Traces.{IsPsi5Trace, psi5_from_first, psi5_message_in}
+use Rattle.receiver_core.specs.ToothReports.{down_report, rises_of, tooth_so_far}
+use Rattle.receiver_core.specs.ToothTraces.{IsToothTrace, down_in, opened_at, tooth_from_first}
+use Rattle.receiver_core.proofs.Psi5Stretches.{end-front}
+use Rattle.receiver_core.proofs.Psi5Traces.{honest-told}
 
 -- ---- edges alone are one stretch
 edges-end : (setup : ChannelSetup) (number : ℕ) (stretch : List NumberedEdge) (edges : List Edge)
@@ -34,14 +45,29 @@ unfolding final so_far
 edges-final setup edges = edges-end setup 0 [] edges
 
 -- ---- the law
+-- of PSI5: at the end the frames are told
+psi5-trace : (s : Settings) (slots : Option SyncSlots) (init : Option ℕ) (messages : List Message) (edges : List NumberedEdge) → IsPsi5Trace s slots messages edges
+    → psi5_at_end s slots init edges ≡ psi5_from_first s slots init messages edges
+unfolding psi5_at_end
+psi5-trace s slots init messages edges trace = ap (burst_reports s init []) (honest-told s slots (flat_map psi5_message_in messages) edges trace.honest)
+
+-- of the tooth gap
+tooth-trace : (s : tooth.Settings) (messages : List Message) (edges : List NumberedEdge) → IsToothTrace s messages edges → tooth_so_far s edges ≡ tooth_from_first s messages edges
+unfolding tooth_so_far
+tooth-trace s messages edges trace = ap (flat_map down_report) (read_honest s (flat_map down_in messages) (opened_at edges) (rises_of edges) trace.honest)
+
 -- of one stretch
 stretch-trace : (setup : ChannelSetup) (messages : List Message) (edges : List Edge) → IsHonest setup messages edges
     → stretch_reports setup (numbered 0 edges) ++ end_reports setup (numbered 0 edges) ≡ from_first setup messages edges
 unfolding stretch_reports end_reports
 stretch-trace (Sent line setup layout serial) messages edges honest = append-nil _ ∙ sent-trace setup layout serial messages (numbered 0 edges) honest
-stretch-trace (Psi5 line setup slots init) messages edges honest = absurd honest
+stretch-trace (Psi5 line setup slots init) messages edges honest =
+    let front = end-front setup slots init (numbered 0 edges) in
+    ap (λ l. psi5_so_far setup slots init (numbered 0 edges) ++ l) (ap (drop (length (psi5_so_far setup slots init (numbered 0 edges)))) front.is ∙ drop-append_seam (psi5_so_far setup slots init (numbered 0 edges)) front.rest)
+    ∙ sym front.is
+    ∙ psi5-trace setup slots init messages (numbered 0 edges) honest
 stretch-trace (Spc line setup) messages edges honest = absurd honest
-stretch-trace (Tooth line setup) messages edges honest = absurd honest
+stretch-trace (Tooth line setup) messages edges honest = append-nil _ ∙ tooth-trace setup messages (numbered 0 edges) honest
 
 pub honest-final : (setup : ChannelSetup) (messages : List Message) (edges : List Edge) → IsHonest setup messages edges → final setup (map item.Edge edges) ≡ from_first setup messages edges
 honest-final setup messages edges honest = edges-final setup edges ∙ stretch-trace setup messages edges honest

@@ -8,8 +8,6 @@ pub mod Channels
 pub mod OpenStretches
 pub mod Readers
 pub mod Tallies
-pub mod SentTraces
-pub mod Traces
 pub mod Psi5Places
 pub mod Psi5Reports
 pub mod Psi5Stretches
@@ -17,3 +15,6 @@ pub mod Psi5Meanings
 pub mod SpcReports
 pub mod ToothReports
 pub mod Psi5Traces
+pub mod SentTraces
+pub mod ToothTraces
+pub mod Traces
