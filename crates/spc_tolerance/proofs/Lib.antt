@@ -1,0 +1,5 @@
+pub mod Steps
+pub mod Bounds
+pub mod HeardAnswers
+pub mod RecordedAnswers
+pub mod PassedEdges

@@ -1,0 +1,1 @@
+-- Traces of messages that are sent with the nominal tick; this project's own.
