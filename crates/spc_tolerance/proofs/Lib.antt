@@ -3,3 +3,6 @@ pub mod Bounds
 pub mod HeardAnswers
 pub mod RecordedAnswers
 pub mod PassedEdges
+pub mod EdgeCounts
+pub mod HeardTransactions
+pub mod HeardTrains

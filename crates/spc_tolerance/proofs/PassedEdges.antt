@@ -40,16 +40,20 @@ values_passable : (s : Settings) (tick : ℕ) → frame.InRange s.sent.tick s.se
 unfolding falls_behind
 values_passable s tick range quiet is_tick [] own last below are_own = tt
 values_passable s tick range quiet is_tick (value ∷ values) [] last below are_own = tt
-values_passable s tick range quiet is_tick (value ∷ values) (own ∷ owns) last below are_own =
-    (value_soon s last tick own value range quiet is_tick (All-head (IsOwnTick tick) own owns are_own) (All-head (λ v. v < 16) value values below),
-    values_passable s tick range quiet is_tick values owns (last + (12 + value) * own) (All-tail (λ v. v < 16) value values below) (All-tail (IsOwnTick tick) own owns are_own))
+values_passable s tick range quiet is_tick (value ∷ values) (own ∷ owns) last below are_own = (
+  value_soon s last tick own value range quiet is_tick (All-head (IsOwnTick tick) own owns are_own) (All-head (λ v. v < 16) value values below),
+  values_passable s tick range quiet is_tick values owns (last + (12 + value) * own) (All-tail (λ v. v < 16) value values below) (All-tail (IsOwnTick tick) own owns are_own),
+)
 
 pub answer_passable : (s : Settings) (trigger : Trigger) (answer : SentAnswer) → frame.InRange s.sent.tick s.sent.jitter s.sent.nibbles → IsQuietLong s → IsAnswerSent s trigger answer → IsPassable s trigger.rise (answer_edges (answer_falls s answer))
 unfolding falls_behind
-answer_passable s trigger answer range quiet sent =
-    (delay_soon s trigger.rise answer.start quiet (omega arith) sent.delay,
-    (calibration_soon s answer.start answer.tick range quiet sent.tick,
-    values_passable s answer.tick range quiet sent.tick (values_in s answer.frame) answer.own_ticks (answer.start + 56 * answer.tick) (values_small s answer.frame sent.fits) sent.own_ticks))
+answer_passable s trigger answer range quiet sent = (
+  delay_soon s trigger.rise answer.start quiet (omega arith) sent.delay,
+  (
+    calibration_soon s answer.start answer.tick range quiet sent.tick,
+    values_passable s answer.tick range quiet sent.tick (values_in s answer.frame) answer.own_ticks (answer.start + 56 * answer.tick) (values_small s answer.frame sent.fits) sent.own_ticks,
+  ),
+)
 
 -- ---- a cut
 pub passing_cut : (s : Settings) (last : ℕ) (ideals : List IdealEdge) (missing opening : ℕ) → IsPassable s last ideals → OpensAfter s.sent.jitter opening (last ∷ ideal_times (take missing ideals)) → IsPassing s opening (drop missing ideals)
