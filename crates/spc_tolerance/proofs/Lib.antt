@@ -6,3 +6,5 @@ pub mod PassedEdges
 pub mod EdgeCounts
 pub mod HeardTransactions
 pub mod HeardTrains
+pub mod ExactClocks
+pub mod NominalTrains

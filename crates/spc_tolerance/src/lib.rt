@@ -9,4 +9,6 @@
 
 mod honest;
 
-pub use honest::honest_answers_are_read;
+pub use honest::{
+    honest_answers_are_read, nominal_answers_are_honest, trains_have_honest_traces,
+};
