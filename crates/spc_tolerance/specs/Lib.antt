@@ -1,0 +1,4 @@
+pub mod Trains
+pub mod Traces
+pub mod FromFirst
+pub mod Nominal
