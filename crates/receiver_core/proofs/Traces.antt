@@ -3,6 +3,7 @@
 --     honest-front      those of a trace that stopped earlier
 use Rattle.std.proofs.Common.{◌≡◌, ℕ, ◌+◌, Option, List, [], ◌∷◌, ◌++◌, drop, flat_map, length, map, refl, sym, ap, ap₂, subst, ◌∙◌, append-nil, append_assoc}
 use Rattle.std.proofs.Math.Seq.{drop-append_seam}
+use Rattle.std.proofs.lemmas.Grind.{flat_map-append}
 use Rattle.std.proofs.lemmas.List.{map-append}
 use Rattle.line_base.specs.Edges.{NumberedEdge}
 use Rattle.line_base.specs.Streams.{IsFrontOf}
@@ -20,7 +21,12 @@ use Rattle.receiver_core.proofs.ReportFronts.{final-front, so_far-front}
 use Rattle.receiver_core.proofs.SentTraces.{sent-trace}
 use Rattle.psi5_frame.specs.Setup.{Settings}
 use Rattle.psi5_downlink.specs.Setup as tooth
+use Rattle.spc_link.specs.Setup as spc
+use Rattle.spc_link.specs.Reading.{spc_reading, spc_ends}
+use Rattle.spc_tolerance.proofs.HeardTrains.{read_honest as read_transactions}
 use Rattle.tooth_tolerance.proofs.ReadTrains.{read_honest}
+use Rattle.receiver_core.specs.SpcReports.{answer_report, spc_so_far, spc_end}
+use Rattle.receiver_core.specs.SpcTraces.{IsSpcTrace, spc_from_first, spc_message_in}
 use Rattle.receiver_core.specs.declared.setup.SyncSlots.{SyncSlots}
 use Rattle.receiver_core.specs.Psi5Reports.{burst_reports, psi5_so_far, psi5_at_end}
 use Rattle.receiver_core.specs.Psi5Traces.{IsPsi5Trace, psi5_from_first, psi5_message_in}
@@ -51,6 +57,13 @@ psi5-trace : (s : Settings) (slots : Option SyncSlots) (init : Option ℕ) (mess
 unfolding psi5_at_end
 psi5-trace s slots init messages edges trace = ap (burst_reports s init []) (honest-told s slots (flat_map psi5_message_in messages) edges trace.honest)
 
+-- of SPC: what is read so far, and what the end adds
+spc-trace : (s : spc.Settings) (messages : List Message) (edges : List NumberedEdge) → IsSpcTrace s messages edges → spc_so_far s edges ++ spc_end s edges ≡ spc_from_first s messages edges
+unfolding spc_so_far spc_end
+spc-trace s messages edges trace =
+    sym (flat_map-append answer_report (spc_reading s edges) (spc_ends s edges))
+    ∙ ap (flat_map answer_report) (read_transactions s (flat_map spc_message_in messages) edges trace.honest)
+
 -- of the tooth gap
 tooth-trace : (s : tooth.Settings) (messages : List Message) (edges : List NumberedEdge) → IsToothTrace s messages edges → tooth_so_far s edges ≡ tooth_from_first s messages edges
 unfolding tooth_so_far
@@ -66,7 +79,7 @@ stretch-trace (Psi5 line setup slots init) messages edges honest =
     ap (λ l. psi5_so_far setup slots init (numbered 0 edges) ++ l) (ap (drop (length (psi5_so_far setup slots init (numbered 0 edges)))) front.is ∙ drop-append_seam (psi5_so_far setup slots init (numbered 0 edges)) front.rest)
     ∙ sym front.is
     ∙ psi5-trace setup slots init messages (numbered 0 edges) honest
-stretch-trace (Spc line setup) messages edges honest = absurd honest
+stretch-trace (Spc line setup) messages edges honest = spc-trace setup messages (numbered 0 edges) honest
 stretch-trace (Tooth line setup) messages edges honest = append-nil _ ∙ tooth-trace setup messages (numbered 0 edges) honest
 
 pub honest-final : (setup : ChannelSetup) (messages : List Message) (edges : List Edge) → IsHonest setup messages edges → final setup (map item.Edge edges) ≡ from_first setup messages edges

@@ -16,5 +16,6 @@ pub mod SpcReports
 pub mod ToothReports
 pub mod Psi5Traces
 pub mod SentTraces
+pub mod SpcTraces
 pub mod ToothTraces
 pub mod Traces
