@@ -1,4 +1,7 @@
 -- Where the bounds of what may be sent are.
+--     shortest, shorter, longest, longer, closest, closer      half-bits, and the quiet between two frames
+--     earliest, earlier, latest, later, no-window, no-sync, no-later_slot      answers in slots
+--     at-end, before-end, behind, together, no-slots      sync pulses
 use Rattle.std.proofs.Common.{◌≡◌, ℕ, ◌+◌, ◌*◌, ◌<◌, ◌≤◌, None, Some, List, [], ◌∷◌, length, refl, sym, ◌∙◌, ap, arith}
 use Rattle.line_base.specs.declared.edge.Span.{Span}
 use Rattle.psi5_frame.specs.declared.burst.Payload.{Payload}

@@ -1,5 +1,6 @@
 -- What is read of the data line of an honest trace.
 --     same_missing      how many edges are missing follows from how many are recorded
+--     by-line      what holds of its edges behind an opening holds of the line
 --     bursts-heard      the bursts of the data line are the frames that are heard
 --     all-told      without slots each of them is told
 use Rattle.std.proofs.Common.{◌≡◌, ℕ, zero, suc, ◌+◌, ◌-◌, ◌≤◌, Bool, true, false, not, cond, if◌then◌else◌, Option, None, List, [], ◌∷◌, ◌++◌, length, map, take, drop, refl, sym, ◌∙◌, ap, ap₂, subst, inl, inr, arith}

@@ -27,7 +27,7 @@ first_at start half places = refl
 nearest-recorded : (jitter ideal : ℕ) → 1 ≤ jitter → IsRecorded jitter ideal (nearest ideal)
 nearest-recorded jitter ideal some = record { not_too_early = omega arith; not_too_late = omega arith }
 
-all-recorded : (jitter : ℕ) (ideals : List ℕ) → 1 ≤ jitter → AreRecorded jitter ideals (map nearest ideals)
+pub all-recorded : (jitter : ℕ) (ideals : List ℕ) → 1 ≤ jitter → AreRecorded jitter ideals (map nearest ideals)
 all-recorded jitter [] some = tt
 all-recorded jitter (ideal ∷ ideals) some = (nearest-recorded jitter ideal some, all-recorded jitter ideals some)
 
@@ -35,12 +35,12 @@ nearest-later : (a b : ℕ) → a ≤ b → nearest a ≤ nearest b
 nearest-later a b le = omega arith
 
 -- ---- one line
-record OneLine (line number : ℕ) (ideals : List IdealEdge) : Type 0 where
-  times : times_of (data_edges None (exact_from line None number ideals)) ≡ map nearest (ideal_times ideals)
-  levels : map (λ (e : NumberedEdge). e.edge.level) (data_edges None (exact_from line None number ideals)) ≡ map (λ (ideal : IdealEdge). ideal.level) ideals
-  syncs : sync_edges None (exact_from line None number ideals) ≡ []
+pub record OneLine (line number : ℕ) (ideals : List IdealEdge) : Type 0 where
+  pub times : times_of (data_edges None (exact_from line None number ideals)) ≡ map nearest (ideal_times ideals)
+  pub levels : map (λ (e : NumberedEdge). e.edge.level) (data_edges None (exact_from line None number ideals)) ≡ map (λ (ideal : IdealEdge). ideal.level) ideals
+  pub syncs : sync_edges None (exact_from line None number ideals) ≡ []
 
-one_line : (line number : ℕ) (ideals : List IdealEdge) → OneLine line number ideals
+pub one_line : (line number : ℕ) (ideals : List IdealEdge) → OneLine line number ideals
 unfolding exact_from
 one_line line number [] = record { times = refl; levels = refl; syncs = refl }
 one_line line number (ideal ∷ ideals) =
@@ -48,16 +48,16 @@ one_line line number (ideal ∷ ideals) =
     record { times = ap (λ l. nearest ideal.time ∷ l) rest.times; levels = ap (λ l. ideal.level ∷ l) rest.levels; syncs = rest.syncs }
 
 -- without slots all edges of a train are on the data line
-record AllData (s : Settings) (sent : List Sending) : Type 0 where
-  all : on_data (ideal_edges s sent) ≡ ideal_edges s sent
-  none : on_sync (ideal_edges s sent) ≡ []
+pub record AllData (s : Settings) (sent : List Sending) : Type 0 where
+  pub all : on_data (ideal_edges s sent) ≡ ideal_edges s sent
+  pub none : on_sync (ideal_edges s sent) ≡ []
 
 pub none_at : (start half : ℕ) (level : Bool) (places : List ℕ) (rest : List IdealEdge) → on_sync (edges_at start half level places ++ rest) ≡ on_sync rest
 unfolding edges_at
 none_at start half level [] rest = refl
 none_at start half level (place ∷ places) rest = none_at start half (not level) places rest
 
-all_data : (s : Settings) (before : SentBefore) (sent : List Sending) → IsTrainBehind s None before sent → AllData s sent
+pub all_data : (s : Settings) (before : SentBefore) (sent : List Sending) → IsTrainBehind s None before sent → AllData s sent
 all_data s before [] train = record { all = refl; none = refl }
 all_data s before (SyncAt pulse ∷ sent) train = absurd train.0
 all_data s before (FrameAt f ∷ sent) train =
@@ -262,7 +262,7 @@ trains-honest line s None sent accepted slots differ train = free-honest line s 
 trains-honest line s (Some sync) sent accepted slots differ train = slots-honest line s sync sent accepted slots differ train
 
 -- ---- nominal half-bits
-nominal_behind : (s : Settings) (before : SentBefore) (burst : NominalBurst) (bursts : List NominalBurst) → IfSome before.frame_end (λ end. end + 1050 * s.bit ≤ burst.start) → AreNominal s (burst ∷ bursts)
+pub nominal_behind : (s : Settings) (before : SentBefore) (burst : NominalBurst) (bursts : List NominalBurst) → IfSome before.frame_end (λ end. end + 1050 * s.bit ≤ burst.start) → AreNominal s (burst ∷ bursts)
     → IsTrainBehind s None before (nominal_train s (burst ∷ bursts))
 nominal_behind s before burst [] apart nominal =
     (record { fits = nominal.0; half_bits = record { not_below = omega arith; not_above = omega arith }; apart = apart; in_slot = refl }, tt)
@@ -271,11 +271,11 @@ nominal_behind s before burst (next ∷ bursts) apart nominal = (
   nominal_behind s (sent_with s before (FrameAt (nominal_frame s burst))) next bursts nominal.1 nominal.2,
 )
 
-nominal-train : (s : Settings) (bursts : List NominalBurst) → AreNominal s bursts → IsTrain s None (nominal_train s bursts)
+pub nominal-train : (s : Settings) (bursts : List NominalBurst) → AreNominal s bursts → IsTrain s None (nominal_train s bursts)
 nominal-train s [] nominal = tt
 nominal-train s (burst ∷ bursts) nominal = nominal_behind s nothing_sent burst bursts tt nominal
 
-nominal-says : (s : Settings) (bursts : List NominalBurst) → map message_of (nominal_train s bursts) ≡ nominal_messages bursts
+pub nominal-says : (s : Settings) (bursts : List NominalBurst) → map message_of (nominal_train s bursts) ≡ nominal_messages bursts
 nominal-says s [] = refl
 nominal-says s (burst ∷ bursts) = ap (λ l. message_of (FrameAt (nominal_frame s burst)) ∷ l) (nominal-says s bursts)
 

@@ -12,3 +12,4 @@ pub mod SlotLines
 pub mod FreeFrames
 pub mod BoundedTrains
 pub mod RestOfFrames
+pub mod NominalFrames

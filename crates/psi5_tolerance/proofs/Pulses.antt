@@ -1,7 +1,7 @@
 -- What the slots were told: the sync pulses, and the starts behind each.
 --     last-pulse, has-pulse      the last sync pulse
 --     starts-last      the starts since
---     pulses-more, starts-pulses, starts-more      with sync pulses more, and with a start more
+--     pulses-append, starts-pulses, starts-here, starts-beyond      with sync pulses more, and with a start more
 use Rattle.std.proofs.Common.{◌≡◌, ℕ, zero, suc, ◌<◌, Bool, true, false, if◌then◌else◌, Option, None, Some, is_some, List, [], ◌∷◌, ◌++◌, length, map, refl, sym, ◌∙◌, ap, arith}
 use Rattle.psi5_slots.specs.History.{Event, has_sync, last_sync, starts_since}
 use Rattle.psi5_slots.specs.History.Event.{Sync, Start}

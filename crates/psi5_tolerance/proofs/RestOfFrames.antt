@@ -90,7 +90,7 @@ unfolding heard_from
 none_said s missing edges told = refl
 
 -- each frame, where the first begins a burst
-all_said : (s : Settings) (sync : Option SyncWindows) (before : SentBefore) (sent : List Sending) (time : ℕ) (edges : List NumberedEdge) (told : List Bool) → AreBounds s.bit s.jitter → IsTrainBehind s sync before sent
+pub all_said : (s : Settings) (sync : Option SyncWindows) (before : SentBefore) (sent : List Sending) (time : ℕ) (edges : List NumberedEdge) (told : List Bool) → AreBounds s.bit s.jitter → IsTrainBehind s sync before sent
     → AreEdges s.jitter (on_data (ideal_edges s sent)) edges → BeginsOrEmpty (changes_after s.bit time edges)
     → map said (heard_from s 0 (map message_of sent) (changes_after s.bit time edges) told) ≡ bursts_in (map message_of sent)
 all_said s sync before [] time edges told b train recorded starts = none_said s 0 (changes_after s.bit time edges) told

@@ -66,3 +66,8 @@ StartsBehind s burst (next ∷ bursts) = end_of s (nominal_frame s burst) + 1050
 abbrev pub AreNominal : Settings → List NominalBurst → Type 0
 AreNominal s [] = Unit {0}
 AreNominal s (burst ∷ bursts) = Fits s.parts burst.payload × StartsBehind s burst bursts × AreNominal s bursts
+
+-- the first of these frames starts at least 1.05 nominal bit times after the opening of the line
+abbrev pub StartsQuietly : Settings → List NominalBurst → Type 0
+StartsQuietly s [] = Unit {0}
+StartsQuietly s (burst ∷ bursts) = 1050 * s.bit ≤ burst.start

@@ -13,7 +13,7 @@ mod exact;
 mod meaning;
 
 pub use bounds::{answers_have_bounds, frames_have_bounds, sync_pulses_have_bounds};
-pub use exact::{exact_trains_are_honest, nominal_bursts_are_honest};
+pub use exact::{exact_trains_are_honest, nominal_bursts_are_honest, nominal_bursts_are_read};
 pub use meaning::{
     half_bits_are_heard, honest_bursts_are_in_their_slots, honest_bursts_are_read,
     no_frame_is_missing,

@@ -1,12 +1,10 @@
 -- What is told of an honest trace of a PSI5 channel: its frames, from the first on.
 --     places-walked      where the bursts begin, by what was before each edge of the data line
 --     honest-told      what is told at the end
-use Rattle.std.proofs.Common.{◌≡◌, ℕ, zero, suc, ◌+◌, Bool, true, false, ◌&&◌, ◌||◌, not, cond, if◌then◌else◌, Option, None, Some, List, [], ◌∷◌, ◌++◌, length, map, refl, sym, ◌∙◌, ap, ap₂, subst, append-nil, arith}
+use Rattle.std.proofs.Common.{◌≡◌, ℕ, Bool, true, false, ◌&&◌, ◌||◌, cond, if◌then◌else◌, Option, None, Some, List, [], ◌∷◌, ◌++◌, length, map, refl, sym, ◌∙◌, ap, ap₂, subst, append-nil, arith}
 use Rattle.std.specs.List.{filter, AllZip}
 use Rattle.std.proofs.lemmas.List.{length-map}
 use Rattle.line_base.specs.Edges.{NumberedEdge}
-use Rattle.psi5_frame.specs.declared.burst.Burst.{Burst}
-use Rattle.psi5_frame.specs.declared.burst.Burst.TheVariants.{Good}
 use Rattle.psi5_frame.specs.Setup.{Settings}
 use Rattle.psi5_frame.specs.Edges.{Change, change_at, changes_after, changes_of}
 use Rattle.psi5_frame.specs.Bursts.{begins, starts_in, burst_starts, bursts_at_end}
@@ -14,13 +12,13 @@ use Rattle.psi5_frame.proofs.Counts.{at_end-counted}
 use Rattle.psi5_frame.proofs.Runs.{starts-append}
 use Rattle.psi5_slots.specs.declared.placed.Placed.TheVariants as placed
 use Rattle.psi5_slots.specs.History.{Event, has_sync, placed_in}
-use Rattle.psi5_slots.specs.History.Event.{Sync, Start}
+use Rattle.psi5_slots.specs.History.Event.{Start}
 use Rattle.psi5_tolerance.specs.Lines as lines
 use Rattle.psi5_tolerance.specs.Lines.{SyncWindows}
 use Rattle.psi5_tolerance.specs.Trains.{Psi5Message}
 use Rattle.psi5_tolerance.specs.Traces.{IsHonest}
 use Rattle.psi5_tolerance.specs.FromFirst.{HeardFrame, heard_of, from_first, good_burst}
-use Rattle.psi5_tolerance.specs.Places.{SlotEdge, pulse_of, start_of, slot_edge, slot_edges_after, slot_edges, slot_starts}
+use Rattle.psi5_tolerance.specs.Places.{SlotEdge, pulse_of, start_of, slot_edge, slot_edges_after, slot_starts}
 use Rattle.psi5_tolerance.proofs.RecordedFrames.{last_time}
 use Rattle.psi5_tolerance.proofs.HeardFrames.{changes_after-append}
 use Rattle.psi5_tolerance.proofs.DataLines.{line-bursts, all-told}
@@ -30,7 +28,6 @@ use Rattle.psi5_tolerance.proofs.SlotLines.{placed-line}
 use Rattle.receiver_core.specs.declared.setup.SyncSlots.{SyncSlots}
 use Rattle.receiver_core.specs.declared.psi5_burst.BurstPlace.{BurstPlace}
 use Rattle.receiver_core.specs.declared.psi5_burst.BurstPlace.TheVariants as place
-use Rattle.receiver_core.specs.declared.psi5_burst.Told.{Told}
 use Rattle.receiver_core.specs.declared.psi5_burst.Told.TheVariants as told
 use Rattle.receiver_core.specs.Psi5Places.{is_on_sync, data_edges, has_sync_edge, starts_added, slot_events, slot_history, place_in_slots, burst_place, places_after, burst_places}
 use Rattle.receiver_core.specs.Psi5Reports.{told_of, told_at, told_at_end}
@@ -74,7 +71,7 @@ told-free s messages edges h =
     let places = burst_places s None edges in
     let bursts : bursts_at_end s (data_edges None edges) ≡ map good_burst frames = ap (bursts_at_end s) (same-line None edges) ∙ line-bursts s None messages edges h in
     let long : length places ≡ length frames =
-        places-counted s None edges ∙ sym (at_end-counted s (data_edges None edges)) ∙ ap length bursts ∙ length-map frames good_burst in
+    places-counted s None edges ∙ sym (at_end-counted s (data_edges None edges)) ∙ ap length bursts ∙ length-map frames good_burst in
     ap (told_at places) bursts ∙ free_told places frames (free_places s [] edges) (free-frames s messages edges h) long ∙ ap (map told_frame) (sym (all-told s messages edges))
 
 -- ---- with slots: where the bursts begin
@@ -237,7 +234,7 @@ places-walked s slots before (e ∷ edges) opened history (Some last) was =
         → (is_on_sync (Some slots) e ≡ false → places_after s (Some slots) (before ++ e ∷ []) edges ≡ map (place_at (windows slots)) (starting (slot_edges_after s.bit (windows slots) opened (history ++ start_of now) (Some e.edge.time) edges)))
         → map (λ number. burst_place s (Some slots) before e) (starts_added s (Some slots) before e) ++ places_after s (Some slots) (before ++ e ∷ []) edges
         ≡ map (place_at (windows slots)) (starting (if b then slot_edges_after s.bit (windows slots) true (history ++ pulse_of opened e) (Some last) edges
-            else now ∷ slot_edges_after s.bit (windows slots) opened (history ++ start_of now) (Some e.edge.time) edges))
+        else now ∷ slot_edges_after s.bit (windows slots) opened (history ++ start_of now) (Some e.edge.time) edges))
     by_line true is on off = ap (λ l. map (λ number. burst_place s (Some slots) before e) l ++ places_after s (Some slots) (before ++ e ∷ []) edges) (added-on s (Some slots) before e is) ∙ on is
     by_line false is on off =
         ap₂ (λ l r. map (λ number. burst_place s (Some slots) before e) l ++ r) (added is) (off is)
