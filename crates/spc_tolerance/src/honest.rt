@@ -1,5 +1,5 @@
 //! What is read of an honest trace, and that there are honest traces of all messages.
-ghost use Rattle.std.specs.Prelude.{◌≡◌, ℕ, None, List, ◌++◌, All, map};
+ghost use Rattle.std.specs.Prelude.{◌≡◌, ℕ, None, List, ◌++◌, All, drop, map};
 ghost use Rattle.line_base.specs.Edges.{NumberedEdge};
 ghost use Rattle.sent_frame.specs.Setup as frame;
 ghost use Rattle.spc_link.specs.Setup.{Settings, fault_of};
@@ -37,4 +37,11 @@ pub fn trains_have_honest_traces()
         → frame.fault_of setup.sent.tick setup.sent.jitter setup.sent.nibbles ≡ None
         → IsTrain setup train → KeepsQuietTimes setup train
         → IsHonest setup (map message_of train) (exact_trace setup train) }
+{}
+
+/// Does nothing; its contract is a law. An honest trace may be opened later, at any of its edges: what is left
+/// of it is an honest trace of the same messages.
+pub fn honest_traces_may_open_later()
+    ensures { (setup : Settings) (messages : List SpcMessage) (edges : List NumberedEdge) (count : ℕ)
+        → IsHonest setup messages edges → IsHonest setup messages (drop count edges) }
 {}
