@@ -52,23 +52,23 @@ length_ideal s (t ∷ train) sent = length-append (edges_sent s t) (ideal_edges 
 
 -- ---- of what is recorded
 -- an ideal edge's level
-abbrev level_of : IdealEdge → Bool
+abbrev pub level_of : IdealEdge → Bool
 level_of (TriggerFall time) = false
 level_of (TriggerRise time) = true
 level_of (AnswerFall time) = false
 level_of AnswerRise = true
 
 -- the levels of these ideal edges alternate from this one on, and the last is high
-abbrev Alternate : Bool → List IdealEdge → Type 0
+abbrev pub Alternate : Bool → List IdealEdge → Type 0
 Alternate false [] = Unit {0}
 Alternate true [] = ⊥
 Alternate level (ideal ∷ ideals) = (level_of ideal ≡ level) × Alternate (not level) ideals
 
 pub record AreAlternating (ideals : List IdealEdge) : Type 0 where
-  level : Bool
-  alternate : Alternate level ideals
+  pub level : Bool
+  pub alternate : Alternate level ideals
 
-alternate_behind : (level : Bool) (ideal : IdealEdge) (ideals : List IdealEdge) → Alternate level (ideal ∷ ideals) → AreAlternating ideals
+pub alternate_behind : (level : Bool) (ideal : IdealEdge) (ideals : List IdealEdge) → Alternate level (ideal ∷ ideals) → AreAlternating ideals
 alternate_behind true ideal ideals alternate = record { level = false; alternate = alternate.1 }
 alternate_behind false ideal ideals alternate = record { level = true; alternate = alternate.1 }
 
@@ -133,3 +133,13 @@ next_opposite s (ideal ∷ ideal' ∷ ideals) e next edges are recorded =
     let two = two_levels are.level ideal ideal' ideals are.alternate in
     not_same are.level e.edge.level next.edge.level
     (same_level s.sent.jitter ideal e.edge recorded.0 ∙ two.0) (same_level s.sent.jitter ideal' next.edge recorded.2.0 ∙ two.1)
+
+before_rise : (level before : Bool) → before ≡ level → true ≡ not level → before ≡ false
+before_rise true before same next = absurd (cc)
+before_rise false before same next = same
+
+-- the edge before a rise in an answer is recorded as a fall
+pub first_level : (s : Settings) (ideal : IdealEdge) (e : NumberedEdge) → AreAlternating (ideal ∷ AnswerRise ∷ []) → AreRecordedAs s (ideal ∷ AnswerRise ∷ []) (e ∷ []) → e.edge.level ≡ false
+first_level s ideal e are recorded =
+    let two = two_levels are.level ideal AnswerRise [] are.alternate in
+    same_level s.sent.jitter ideal e.edge recorded.0 ∙ before_rise are.level (level_of ideal) two.0 two.1

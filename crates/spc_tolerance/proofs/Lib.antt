@@ -9,3 +9,4 @@ pub mod HeardTrains
 pub mod ExactClocks
 pub mod NominalTrains
 pub mod LaterOpenings
+pub mod MissingRises
