@@ -2,7 +2,8 @@
 --     length_sent         of a transaction
 --     length_ideal        of transactions
 --     whole_recorded      recorded edges and, where it is missing, the last rise are as many as were sent
-use Rattle.std.proofs.Common.{◌≡◌, ℕ, zero, suc, ◌+◌, ◌*◌, List, [], ◌∷◌, ◌++◌, Bool, true, false, not, if◌then◌else◌, length, map, drop, refl, ap, ap₂, sym, ◌∙◌, subst, arith}
+--     next_opposite       recorded levels alternate
+use Rattle.std.proofs.Common.{◌≡◌, ◌≢◌, ℕ, zero, suc, ◌+◌, ◌*◌, List, [], ◌∷◌, ◌++◌, Bool, true, false, not, if◌then◌else◌, length, map, drop, refl, ap, ap₂, sym, ◌∙◌, arith}
 use Rattle.std.proofs.lemmas.List.{length-append, length-map}
 use Rattle.line_base.specs.Edges.{NumberedEdge}
 use Rattle.line_base.specs.declared.edge.Edge.{Edge}
@@ -51,23 +52,23 @@ length_ideal s (t ∷ train) sent = length-append (edges_sent s t) (ideal_edges 
 
 -- ---- of what is recorded
 -- an ideal edge's level
-abbrev level_of : IdealEdge → Bool
+abbrev pub level_of : IdealEdge → Bool
 level_of (TriggerFall time) = false
 level_of (TriggerRise time) = true
 level_of (AnswerFall time) = false
 level_of AnswerRise = true
 
 -- the levels of these ideal edges alternate from this one on, and the last is high
-abbrev Alternate : Bool → List IdealEdge → Type 0
+abbrev pub Alternate : Bool → List IdealEdge → Type 0
 Alternate false [] = Unit {0}
 Alternate true [] = ⊥
 Alternate level (ideal ∷ ideals) = (level_of ideal ≡ level) × Alternate (not level) ideals
 
 pub record AreAlternating (ideals : List IdealEdge) : Type 0 where
-  level : Bool
-  alternate : Alternate level ideals
+  pub level : Bool
+  pub alternate : Alternate level ideals
 
-alternate_behind : (level : Bool) (ideal : IdealEdge) (ideals : List IdealEdge) → Alternate level (ideal ∷ ideals) → AreAlternating ideals
+pub alternate_behind : (level : Bool) (ideal : IdealEdge) (ideals : List IdealEdge) → Alternate level (ideal ∷ ideals) → AreAlternating ideals
 alternate_behind true ideal ideals alternate = record { level = false; alternate = alternate.1 }
 alternate_behind false ideal ideals alternate = record { level = true; alternate = alternate.1 }
 
@@ -115,3 +116,30 @@ pub whole_recorded : (s : Settings) (ideals : List IdealEdge) (e : NumberedEdge)
 whole_recorded s [] e edges are recorded = absurd recorded
 whole_recorded s (ideal ∷ ideals) e [] are recorded = last_count are.level ideal ideals e.edge.level are.alternate recorded.2 (same_level s.sent.jitter ideal e.edge recorded.0)
 whole_recorded s (ideal ∷ ideals) e (next ∷ edges) are recorded = ap suc (whole_recorded s ideals next edges (alternate_behind are.level ideal ideals are.alternate) recorded.2)
+
+-- ---- levels that are recorded
+not_same : (level a b : Bool) → a ≡ level → b ≡ not level → a ≢ b
+not_same true a b e e' = λ same. (cc)
+not_same false a b e e' = λ same. (cc)
+
+two_levels : (level : Bool) (ideal next : IdealEdge) (ideals : List IdealEdge) → Alternate level (ideal ∷ next ∷ ideals) → (level_of ideal ≡ level) × (level_of next ≡ not level)
+two_levels true ideal next ideals alternate = (alternate.0, alternate.1.0)
+two_levels false ideal next ideals alternate = (alternate.0, alternate.1.0)
+
+pub next_opposite : (s : Settings) (ideals : List IdealEdge) (e next : NumberedEdge) (edges : List NumberedEdge) → AreAlternating ideals → AreRecordedAs s ideals (e ∷ next ∷ edges) → e.edge.level ≢ next.edge.level
+next_opposite s [] e next edges are recorded = absurd recorded
+next_opposite s (ideal ∷ []) e next edges are recorded = absurd recorded.2
+next_opposite s (ideal ∷ ideal' ∷ ideals) e next edges are recorded =
+    let two = two_levels are.level ideal ideal' ideals are.alternate in
+    not_same are.level e.edge.level next.edge.level
+    (same_level s.sent.jitter ideal e.edge recorded.0 ∙ two.0) (same_level s.sent.jitter ideal' next.edge recorded.2.0 ∙ two.1)
+
+before_rise : (level before : Bool) → before ≡ level → true ≡ not level → before ≡ false
+before_rise true before same next = absurd (cc)
+before_rise false before same next = same
+
+-- the edge before a rise in an answer is recorded as a fall
+pub first_level : (s : Settings) (ideal : IdealEdge) (e : NumberedEdge) → AreAlternating (ideal ∷ AnswerRise ∷ []) → AreRecordedAs s (ideal ∷ AnswerRise ∷ []) (e ∷ []) → e.edge.level ≡ false
+first_level s ideal e are recorded =
+    let two = two_levels are.level ideal AnswerRise [] are.alternate in
+    same_level s.sent.jitter ideal e.edge recorded.0 ∙ before_rise are.level (level_of ideal) two.0 two.1

@@ -2,7 +2,7 @@
 --     answer_spaced, train_spaced      each ideal edge comes behind the one before
 --     exact_recorded, exact_order      so they are recorded, in order
 --     exact_honest                     and the trace is honest
-use Rattle.std.proofs.Common.{◌≡◌, ◌≢◌, ℕ, suc, ◌+◌, ◌*◌, ◌/◌, ◌<◌, ◌≤◌, None, true, false, List, [], ◌∷◌, ◌++◌, length, map, refl, arith}
+use Rattle.std.proofs.Common.{◌≡◌, ℕ, suc, ◌+◌, ◌*◌, ◌/◌, ◌≤◌, None, true, false, List, [], ◌∷◌, ◌++◌, map, refl, arith}
 use Rattle.std.proofs.lemmas.Nat.{mul-le}
 use Rattle.std.proofs.lemmas.List.Elements.{All-head, All-tail}
 use Rattle.std.specs.List.{All}
@@ -11,12 +11,11 @@ use Rattle.sent_frame.specs.Setup as frame
 use Rattle.spc_link.specs.Setup.{Settings, fault_of}
 use Rattle.tolerance.specs.Recorded.{IsRecorded}
 use Rattle.tolerance.specs.Ticks.{IsOwnTick, IsTick}
-use Rattle.spc_tolerance.specs.Trains.{AnswerFall, AnswerRise, Answered, IdealEdge, IsAnswerSent, IsSent, IsTrain, SentAnswer, Transaction, Trigger, TriggerFall, TriggerRise, Unanswered, answer_edges, answer_falls, edges_in_answer, falls_behind, ideal_edges, last_of, lengths_of, message_of, pulses_sent, trigger_in, values_in}
+use Rattle.spc_tolerance.specs.Trains.{AnswerFall, AnswerRise, Answered, IdealEdge, IsAnswerSent, IsSent, IsTrain, SentAnswer, Transaction, Trigger, TriggerFall, TriggerRise, Unanswered, answer_edges, answer_falls, edges_in_answer, falls_behind, ideal_edges, last_of, lengths_of, trigger_in, values_in}
 use Rattle.spc_tolerance.specs.Traces.{AreInOrder, AreRecordedAs, IsHonest, KeepsQuiet, OpensOpposite}
-use Rattle.spc_tolerance.specs.Nominal.{KeepsQuietTimes, RestsBefore, exact_edge, exact_edges, exact_trace, quiet_behind, rests_at}
-use Rattle.spc_tolerance.proofs.Bounds.{frame_range}
+use Rattle.spc_tolerance.specs.Nominal.{KeepsQuietTimes, exact_edge, exact_edges, exact_trace, quiet_behind, rests_at}
+use Rattle.spc_tolerance.proofs.RecordedTimes.{frame_range}
 use Rattle.spc_tolerance.proofs.EdgeCounts.{messages_of}
-use Rattle.spc_tolerance.proofs.HeardAnswers.{length_own, length_values}
 
 -- each of these ideal edges comes behind the one before, which is at this time; a trigger's fall keeps the quiet time
 abbrev pub AreSpaced : Settings → ℕ → List IdealEdge → Type 0
@@ -36,9 +35,10 @@ values_spaced : (s : Settings) (tick : ℕ) → IsTick s.sent.tick tick → (val
 unfolding falls_behind
 values_spaced s tick is_tick [] own last more are_own spaced = spaced
 values_spaced s tick is_tick (value ∷ values) [] last more are_own spaced = spaced
-values_spaced s tick is_tick (value ∷ values) (own ∷ owns) last more are_own spaced =
-    (value_spaced s last tick own value is_tick (All-head (IsOwnTick tick) own owns are_own),
-    values_spaced s tick is_tick values owns (last + (12 + value) * own) more (All-tail (IsOwnTick tick) own owns are_own) spaced)
+values_spaced s tick is_tick (value ∷ values) (own ∷ owns) last more are_own spaced = (
+  value_spaced s last tick own value is_tick (All-head (IsOwnTick tick) own owns are_own),
+  values_spaced s tick is_tick values owns (last + (12 + value) * own) more (All-tail (IsOwnTick tick) own owns are_own) spaced,
+)
 
 pub answer_spaced : (s : Settings) (trigger : Trigger) (answer : SentAnswer) → 1 ≤ s.sent.jitter → IsAnswerSent s trigger answer → (more : List IdealEdge) → AreSpaced s (rests_at s (Answered trigger answer)) more
     → AreSpaced s trigger.rise (answer_edges (answer_falls s answer) ++ more)
@@ -51,9 +51,6 @@ answer_spaced s trigger answer some sent more spaced =
 in_answer_spaced : (s : Settings) (t : Transaction) → 1 ≤ s.sent.jitter → IsSent s t → (more : List IdealEdge) → AreSpaced s (rests_at s t) more → AreSpaced s (trigger_in t).rise (edges_in_answer s t ++ more)
 in_answer_spaced s (Answered trigger answer) some sent more spaced = answer_spaced s trigger answer some sent.answer more spaced
 in_answer_spaced s (Unanswered trigger) some sent more spaced = spaced
-
-behind_fall : Settings → Transaction → List Transaction → List IdealEdge
-behind_fall s t train = TriggerRise (trigger_in t).rise ∷ (edges_in_answer s t ++ ideal_edges s train)
 
 pub train_spaced : (s : Settings) → 1 ≤ s.sent.jitter → (t : Transaction) (train : List Transaction) → IsTrain s (t ∷ train) → KeepsQuietTimes s (t ∷ train) → AreSpaced s (trigger_in t).fall (TriggerRise (trigger_in t).rise ∷ (edges_in_answer s t ++ ideal_edges s train))
 train_spaced s some t [] sent quiet =
@@ -96,16 +93,19 @@ exact_order s first number before (AnswerRise ∷ ideals) there spaced =
 trace_recorded : (s : Settings) → 1 ≤ s.sent.jitter → (train : List Transaction) → IsTrain s train → KeepsQuietTimes s train → AreRecordedAs s (ideal_edges s train) (exact_edges s.sent.tick 1 0 (ideal_edges s train))
 unfolding exact_edges
 trace_recorded s some [] sent quiet = tt
-trace_recorded s some (t ∷ train) sent quiet =
-    ((refl, exact_time s.sent.jitter (trigger_in t).fall some), tt,
-    exact_recorded s some 2 (trigger_in t).fall (TriggerRise (trigger_in t).rise ∷ (edges_in_answer s t ++ ideal_edges s train)) (train_spaced s some t train sent quiet))
+trace_recorded s some (t ∷ train) sent quiet = (
+  (refl, exact_time s.sent.jitter (trigger_in t).fall some),
+  tt,
+  exact_recorded s some 2 (trigger_in t).fall (TriggerRise (trigger_in t).rise ∷ (edges_in_answer s t ++ ideal_edges s train)) (train_spaced s some t train sent quiet),
+)
 
 trace_order : (s : Settings) → 1 ≤ s.sent.jitter → (train : List Transaction) → IsTrain s train → KeepsQuietTimes s train → AreInOrder (exact_trace s train)
 unfolding exact_edges
 trace_order s some [] sent quiet = tt
-trace_order s some (t ∷ train) sent quiet =
-    (omega arith,
-    exact_order s (exact_edge 1 false (trigger_in t).fall) 2 (trigger_in t).fall (TriggerRise (trigger_in t).rise ∷ (edges_in_answer s t ++ ideal_edges s train)) (omega arith) (train_spaced s some t train sent quiet))
+trace_order s some (t ∷ train) sent quiet = (
+  omega arith,
+  exact_order s (exact_edge 1 false (trigger_in t).fall) 2 (trigger_in t).fall (TriggerRise (trigger_in t).rise ∷ (edges_in_answer s t ++ ideal_edges s train)) (omega arith) (train_spaced s some t train sent quiet),
+)
 
 trace_opposite : (s : Settings) (train : List Transaction) → OpensOpposite (exact_trace s train)
 unfolding exact_edges

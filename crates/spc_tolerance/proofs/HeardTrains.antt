@@ -2,7 +2,7 @@
 --     read_all          from an edge behind which the first is recorded and keeps quiet
 --     read_from         from any edge on
 --     read_honest       of an honest trace
-use Rattle.std.proofs.Common.{◌≡◌, ℕ, zero, suc, ◌+◌, ◌-◌, ◌<◌, ◌≤◌, min, List, [], ◌∷◌, ◌++◌, Bool, true, false, cond, length, map, drop, take, inl, inr, refl, ap, sym, ◌∙◌, subst, arith}
+use Rattle.std.proofs.Common.{◌≡◌, ℕ, zero, suc, ◌+◌, ◌-◌, ◌≤◌, List, [], ◌∷◌, ◌++◌, Bool, true, false, cond, length, drop, take, inl, inr, refl, ap, sym, ◌∙◌, subst, arith}
 use Rattle.std.proofs.Math.Seq.{drop-append-add, take-append-add}
 use Rattle.std.proofs.lemmas.Bool.{cases_lt}
 use Rattle.std.proofs.lemmas.List.{drop-append-le, drop_all, length-drop, take-append-le}
@@ -13,7 +13,7 @@ use Rattle.tolerance.specs.Recorded.{OpensAfter}
 use Rattle.spc_tolerance.specs.Trains.{AnswerFall, AnswerRise, IdealEdge, IsSent, IsTrain, SpcMessage, Transaction, TriggerFall, TriggerRise, edges_sent, ideal_edges, ideal_times, message_of}
 use Rattle.spc_tolerance.specs.Traces.{AreInOrder, AreRecordedAs, IsHonest, OpensBehind}
 use Rattle.spc_tolerance.specs.FromFirst.{all_edges, begins_quietly, edge_count, heard_from, heard_of, step_of, steps_from, whole_count}
-use Rattle.spc_tolerance.proofs.Bounds.{frame_range, quiet_range}
+use Rattle.spc_tolerance.proofs.RecordedTimes.{frame_range, quiet_range}
 use Rattle.spc_tolerance.proofs.EdgeCounts.{alternate_cut, length_ideal, length_sent, messages_of, train-alternates, whole_recorded}
 use Rattle.spc_tolerance.proofs.HeardTransactions.{IsAccepted, begins_ready, read_none, read_one, read_rest, ready_next}
 use Rattle.spc_tolerance.proofs.PassedEdges.{AreReady, read_alone, ready_behind}

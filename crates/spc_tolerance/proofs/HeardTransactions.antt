@@ -2,23 +2,21 @@
 --     begins_ready        where the edges before it keep quiet, its trigger's fall is after quiet
 --     read_one            it is reported where its trigger's fall is after quiet
 --     read_none           and passed over where it isn't
---     read_rest           so are its last edges, where the first ones are left out
-use Rattle.std.proofs.Common.{◌≡◌, ℕ, zero, suc, ◌+◌, ◌*◌, ◌<◌, ◌≤◌, List, [], ◌∷◌, ◌++◌, true, false, None, Some, length, drop, take, refl, ap, sym, ◌∙◌, subst, arith}
+--     ready_next          behind it the next one is recorded
+--     read_rest           its last edges are passed over where the first ones are left out
+use Rattle.std.proofs.Common.{◌≡◌, ℕ, suc, ◌+◌, ◌*◌, ◌<◌, ◌≤◌, List, [], ◌∷◌, ◌++◌, true, false, None, length, drop, take, ap, sym, ◌∙◌, subst, arith}
 use Rattle.line_base.specs.Edges.{NumberedEdge}
-use Rattle.line_base.specs.Readings.{ended}
-use Rattle.line_base.specs.Readings.Found.{Waiting}
 use Rattle.sent_frame.specs.Setup as frame
 use Rattle.sent_frame.specs.Pulses.{falls_in, pulses_after}
 use Rattle.sent_frame.specs.Reading.{place_at}
-use Rattle.spc_link.specs.declared.step.SpcStep.{SpcStep}
 use Rattle.spc_link.specs.declared.step.SpcStep.TheVariants.{Good, NoAnswer}
 use Rattle.spc_link.specs.Setup.{Settings, fault_of}
-use Rattle.spc_link.specs.Reading.{after_trigger, at_fall, edges_before, found, is_after_quiet, spc_at_end}
+use Rattle.spc_link.specs.Reading.{at_fall, edges_before, found, is_after_quiet, spc_at_end}
 use Rattle.tolerance.specs.Recorded.{OpensAfter}
 use Rattle.spc_tolerance.specs.Trains.{Answered, IdealEdge, IsAnswerSent, IsSent, IsTriggerSent, SentAnswer, Transaction, Trigger, TriggerRise, Unanswered, answer_edges, answer_falls, edges_in_answer, edges_sent, ideal_edges, ideal_times, message_of, pulses_sent, trigger_in}
 use Rattle.spc_tolerance.specs.Traces.{AreInOrder, AreRecordedAs}
 use Rattle.spc_tolerance.specs.FromFirst.{begins_quietly, edge_count, number_at, step_of}
-use Rattle.spc_tolerance.proofs.Bounds.{IsQuietLong, after_quiet, asks_code, delay_soon, fall_passed, lasts_recorded}
+use Rattle.spc_tolerance.proofs.RecordedTimes.{IsQuietLong, after_quiet, asks_code, delay_soon, fall_passed, lasts_recorded}
 use Rattle.spc_tolerance.proofs.EdgeCounts.{length_in_answer, length_pulses, length_sent}
 use Rattle.spc_tolerance.proofs.HeardAnswers.{answer_is}
 use Rattle.spc_tolerance.proofs.PassedEdges.{AreReady, IsPassable, IsPassing, answer_passable, passing_cut, read_alone, read_passed, ready_behind}
@@ -37,7 +35,7 @@ begins_ready s t train (before ∷ []) ready = absurd ready.0
 begins_ready s t train (before ∷ fall ∷ edges) ready = after_quiet s before.edge.time (trigger_in t).fall fall.edge ready.0.0.0 ready.0.0.1 ready.1
 
 -- ---- an answer
--- how many edges stand before the fall that ends the CRC pulse, and which number that has
+-- its CRC pulse is there
 within_answer : (s : Settings) (trigger : Trigger) (answer : SentAnswer) → IsAnswerSent s trigger answer → suc (suc s.sent.nibbles) < length (pulses_sent s answer)
 within_answer s trigger answer sent = omega (arith, length_pulses s trigger answer sent)
 

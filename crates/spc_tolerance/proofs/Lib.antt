@@ -1,5 +1,5 @@
 pub mod Steps
-pub mod Bounds
+pub mod RecordedTimes
 pub mod HeardAnswers
 pub mod RecordedAnswers
 pub mod PassedEdges
@@ -8,3 +8,5 @@ pub mod HeardTransactions
 pub mod HeardTrains
 pub mod ExactClocks
 pub mod NominalTrains
+pub mod LaterOpenings
+pub mod MissingRises

@@ -2,7 +2,7 @@
 --     windows_wide, delay_wide      there is room for twice the jitter to each side of the middle
 --     nominal_sent, nominal_quiet, nominal_says      the train
 --     nominal_honest                so it has an honest trace
-use Rattle.std.proofs.Common.{◌≡◌, ℕ, zero, suc, ◌+◌, ◌-◌, ◌*◌, ◌<◌, ◌≤◌, Bool, true, false, not, ◌&&◌, ◌||◌, cond, nat_le, nat_lt, None, Some, List, [], ◌∷◌, length, map, get_or, refl, ap, ap₂, sym, ◌∙◌, subst, arith}
+use Rattle.std.proofs.Common.{◌≡◌, ℕ, zero, suc, ◌+◌, ◌-◌, ◌*◌, ◌<◌, ◌≤◌, Bool, true, false, not, ◌&&◌, cond, nat_le, nat_lt, None, Some, List, [], ◌∷◌, length, get_or, refl, ap, ap₂, sym, ◌∙◌, subst, arith}
 use Rattle.std.proofs.Math.Nat.{mul-le-mul_left}
 use Rattle.std.proofs.lemmas.Bool.{and_parts}
 use Rattle.std.proofs.lemmas.Bool.Decides.{nat_tests}
@@ -16,10 +16,10 @@ use Rattle.sent_frame.specs.declared.frame.SentFrame.{SentFrame}
 use Rattle.sent_frame.specs.Setup as frame
 use Rattle.spc_link.specs.Setup.{Settings, are_apart, are_windows, fault_of, is_behind, is_wide}
 use Rattle.tolerance.specs.Ticks.{IsOwnTick}
-use Rattle.spc_tolerance.specs.Trains.{Answer, Answered, BeginsAfter, FitsMessage, FitsSetup, IsAnswerSent, IsSent, IsTrain, IsTriggerSent, LastsInside, Silent, SpcMessage, Transaction, Unanswered, ends_at, message_of, ticks_in, trigger_in, values_in}
+use Rattle.spc_tolerance.specs.Trains.{Answer, Answered, BeginsAfter, FitsMessage, FitsSetup, IsAnswerSent, IsSent, IsTrain, IsTriggerSent, LastsInside, Silent, SpcMessage, Transaction, Unanswered, ends_at, message_of, trigger_in, values_in}
 use Rattle.spc_tolerance.specs.Traces.{IsHonest}
 use Rattle.spc_tolerance.specs.Nominal.{KeepsQuietTimes, RestsBefore, middle_of, nominal_answer, nominal_edges, nominal_train, nominal_transaction, nominal_trigger, quiet_behind, rests_at}
-use Rattle.spc_tolerance.proofs.Bounds.{frame_range}
+use Rattle.spc_tolerance.proofs.RecordedTimes.{frame_range}
 use Rattle.spc_tolerance.proofs.EdgeCounts.{messages_of}
 use Rattle.spc_tolerance.proofs.ExactClocks.{exact_honest}
 
@@ -94,10 +94,11 @@ pub nominal_sent : (s : Settings) → fault_of s.sent s.windows s.delay s.quiet 
 unfolding nominal_train
 nominal_sent s accepted some small time [] fit = tt
 nominal_sent s accepted some small time (message ∷ messages) fit =
-    let t = nominal_transaction s time message in
-    (transaction_sent s time message accepted small (All-head (FitsMessage s) message messages fit),
-    begins_after s (ends_at s t) (rests_at s t) messages (ends_before s t) some,
-    nominal_sent s accepted some small (quiet_behind s (rests_at s t)) messages (All-tail (FitsMessage s) message messages fit))
+    let t = nominal_transaction s time message in (
+      transaction_sent s time message accepted small (All-head (FitsMessage s) message messages fit),
+      begins_after s (ends_at s t) (rests_at s t) messages (ends_before s t) some,
+      nominal_sent s accepted some small (quiet_behind s (rests_at s t)) messages (All-tail (FitsMessage s) message messages fit),
+    )
 
 rests_before : (s : Settings) (time : ℕ) (messages : List SpcMessage) → RestsBefore s time (nominal_train s (quiet_behind s time) messages)
 unfolding nominal_train

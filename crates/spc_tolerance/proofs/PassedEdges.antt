@@ -16,7 +16,7 @@ use Rattle.tolerance.specs.Recorded.{OpensAfter}
 use Rattle.tolerance.specs.Ticks.{IsTick, IsOwnTick}
 use Rattle.spc_tolerance.specs.Trains.{AnswerFall, AnswerRise, IdealEdge, IsAnswerSent, SentAnswer, Trigger, TriggerFall, TriggerRise, answer_edges, answer_falls, falls_behind, ideal_times, lengths_of, values_in}
 use Rattle.spc_tolerance.specs.Traces.{AreInOrder, AreRecordedAs, IsRecordedAs, KeepsQuiet, MayBeMissing}
-use Rattle.spc_tolerance.proofs.Bounds.{IsQuietLong, IsSoon, calibration_soon, delay_soon, fall_passed, rise_passed, value_soon}
+use Rattle.spc_tolerance.proofs.RecordedTimes.{IsQuietLong, IsSoon, calibration_soon, delay_soon, fall_passed, rise_passed, value_soon}
 use Rattle.spc_tolerance.proofs.HeardAnswers.{values_small}
 use Rattle.spc_tolerance.proofs.Steps.{at_last, at_passed, over_edge, over_last, read_none}
 

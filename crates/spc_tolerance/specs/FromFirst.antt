@@ -1,5 +1,5 @@
 -- What is read of a trace, from the first transaction on whose trigger falls after quiet; this project's own.
-use Rattle.std.specs.Prelude.{ℕ, zero, suc, ◌+◌, ◌-◌, ◌*◌, Bool, true, false, List, [], ◌∷◌, map, drop, slice_index, if◌then◌else◌}
+use Rattle.std.specs.Prelude.{ℕ, zero, suc, ◌+◌, ◌-◌, ◌*◌, Bool, false, List, [], ◌∷◌, map, drop, slice_index, if◌then◌else◌}
 use Rattle.line_base.specs.Edges.{NumberedEdge}
 use Rattle.spc_link.specs.declared.step.SpcStep.{SpcStep}
 use Rattle.spc_link.specs.declared.step.SpcStep.TheVariants.{Good, NoAnswer}

@@ -1,13 +1,14 @@
 //! What is read of an honest trace, and that there are honest traces of all messages.
-ghost use Rattle.std.specs.Prelude.{◌≡◌, ℕ, None, List, ◌++◌, All, map};
+ghost use Rattle.std.specs.Prelude.{◌≡◌, ℕ, None, true, List, [], ◌∷◌, ◌++◌, All, drop, map};
 ghost use Rattle.line_base.specs.Edges.{NumberedEdge};
+ghost use Rattle.sent_frame.specs.declared.frame.SentFrame.{SentFrame};
 ghost use Rattle.sent_frame.specs.Setup as frame;
 ghost use Rattle.spc_link.specs.Setup.{Settings, fault_of};
 ghost use Rattle.spc_link.specs.Reading.{spc_ends, spc_reading};
 ghost use Rattle.spc_tolerance.specs.FromFirst.{heard_of};
 ghost use Rattle.spc_tolerance.specs.Nominal.{KeepsQuietTimes, exact_trace, nominal_edges};
 ghost use Rattle.spc_tolerance.specs.Traces.{IsHonest};
-ghost use Rattle.spc_tolerance.specs.Trains.{FitsMessage, IsTrain, SpcMessage, Transaction, message_of};
+ghost use Rattle.spc_tolerance.specs.Trains.{Answer, FitsMessage, IsTrain, SpcMessage, Transaction, message_of};
 
 /// Does nothing; its contract is a law. What is read of an honest trace, with what its end adds, is exactly the
 /// transactions that were sent, from the first on whose trigger's recorded fall is after quiet: each answer is
@@ -37,4 +38,18 @@ pub fn trains_have_honest_traces()
         → frame.fault_of setup.sent.tick setup.sent.jitter setup.sent.nibbles ≡ None
         → IsTrain setup train → KeepsQuietTimes setup train
         → IsHonest setup (map message_of train) (exact_trace setup train) }
+{}
+
+/// Does nothing; its contract is a law. An honest trace may be opened later, at any of its edges: what is left
+/// of it is an honest trace of the same messages.
+pub fn honest_traces_may_open_later()
+    ensures { (setup : Settings) (messages : List SpcMessage) (edges : List NumberedEdge) (count : ℕ)
+        → IsHonest setup messages edges → IsHonest setup messages (drop count edges) }
+{}
+
+/// Does nothing; its contract is a law. Where the last message is an answer, the rise that follows its last fall
+/// may be missing in an honest trace.
+pub fn a_last_rise_may_be_missing()
+    ensures { (setup : Settings) (messages : List SpcMessage) (code : ℕ) (frame : SentFrame) (edges : List NumberedEdge) (rise : NumberedEdge) → rise.edge.level ≡ true
+        → IsHonest setup (messages ++ Answer code frame ∷ []) (edges ++ rise ∷ []) → IsHonest setup (messages ++ Answer code frame ∷ []) edges }
 {}

@@ -7,8 +7,13 @@
 //! and their contracts say what holds.
 #![tactic(auto)]
 
+mod bounds;
 mod honest;
 
+pub use bounds::{
+    delays_end_two_jitters_inside, quiet_times_end_two_jitters_later, widths_end_two_jitters_inside,
+};
 pub use honest::{
-    honest_answers_are_read, nominal_answers_are_honest, trains_have_honest_traces,
+    a_last_rise_may_be_missing, honest_answers_are_read, honest_traces_may_open_later,
+    nominal_answers_are_honest, trains_have_honest_traces,
 };
