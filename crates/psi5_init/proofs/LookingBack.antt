@@ -1,7 +1,7 @@
 -- What the codes before a place say is where the reading stands there, so the steps are those of the standings.
 --     leads-on      one code more
 --     reading-stands, reading-none      all codes, and none
-use Rattle.std.proofs.Common.{◌≡◌, ℕ, suc, Bool, true, false, ◌||◌, nat_eq, nat_lt, cond, if◌then◌else◌, List, [], ◌∷◌, refl, sym, subst, ◌∙◌, ap, arith}
+use Rattle.std.proofs.Common.{◌≡◌, ℕ, suc, Bool, true, false, ◌||◌, nat_eq, nat_lt, if◌then◌else◌, List, [], ◌∷◌, refl, sym, subst, ◌∙◌, ap, arith}
 use Rattle.std.proofs.lemmas.Bool.{eq-eqb, eqb-true, ne_eqb}
 use Rattle.line_base.specs.declared.rule.Rule.{Rule}
 use Rattle.line_base.specs.declared.rule.Rule.TheVariants.{InitOrder, InitRepeat}
@@ -12,7 +12,7 @@ use Rattle.psi5_init.specs.declared.step.InitStep.TheVariants as step
 use Rattle.psi5_init.specs.Standings.{BlockRead, Standing, Led, led_by, steps_from, after_fresh}
 use Rattle.psi5_init.specs.Standings.Standing.{Fresh, Idle, AwaitsValue, AwaitsId}
 use Rattle.psi5_init.specs.Standings as standings
-use Rattle.psi5_init.specs.Readings.{are_values, pairs_of, is_loose, is_repeated, whole_blocks, behind_id, may_end, behind_value, outside, next_id, step_behind, since, steps_behind, init_reading}
+use Rattle.psi5_init.specs.Readings.{are_values, pairs_of, is_loose, is_repeated, whole_blocks, may_end, outside, next_id, step_behind, since, steps_behind, init_reading}
 
 -- the value of the pair that these codes end in, if it has this ID
 value_before : ℕ → List Code → ℕ

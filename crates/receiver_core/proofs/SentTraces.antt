@@ -1,15 +1,13 @@
 -- What a SENT channel reports of an honest trace is exactly its messages, from the first whole frame on.
 --     sent-traces      from what is read of the frames and of their statuses
 --     sent-trace      the law
-use Rattle.std.proofs.Common.{◌≡◌, ℕ, zero, suc, ◌+◌, ◌≤◌, List, [], ◌∷◌, ◌++◌, Option, None, Some, length, map, take, drop, flat_map, refl, sym, ap, ap₂, subst, ◌∙◌, append-nil, append_assoc, arith}
+use Rattle.std.proofs.Common.{◌≡◌, ℕ, zero, suc, ◌+◌, List, [], ◌∷◌, ◌++◌, Option, None, Some, length, map, take, drop, flat_map, refl, sym, ap, ap₂, subst, ◌∙◌, append_assoc, arith}
 use Rattle.std.specs.List.{All, last_or}
 use Rattle.std.proofs.Math.Seq.{drop-append_seam}
 use Rattle.std.proofs.lemmas.List.{drop-map, length-append, length-map, map-append, take_at}
 use Rattle.std.proofs.lemmas.List.Elements.{All-head, All-tail}
 use Rattle.line_base.specs.Edges.{NumberedEdge}
 use Rattle.sent_frame.specs.declared.frame.SentFrame.{SentFrame}
-use Rattle.sent_frame.specs.declared.frame.SentStep.{SentStep}
-use Rattle.sent_frame.specs.declared.frame.SentStep.TheVariants.{Good}
 use Rattle.sent_frame.specs.Setup.{Settings}
 use Rattle.sent_frame.specs.Reading.{sent_reading}
 use Rattle.sent_fast.specs.declared.layout.Layout.{Layout}
@@ -30,12 +28,11 @@ use Rattle.sent_tolerance.proofs.HeardTrains.{read_honest}
 use Rattle.sent_tolerance.proofs.Hearing.{heard_as, heard-map, heard-rest}
 use Rattle.receiver_core.specs.declared.message.Message.{Message}
 use Rattle.receiver_core.specs.declared.message.Message.TheVariants as message
-use Rattle.receiver_core.specs.declared.report.Report.{Report}
 use Rattle.receiver_core.specs.declared.report.What.TheVariants as what
 use Rattle.receiver_core.specs.declared.setup.Serial.{Serial}
 use Rattle.receiver_core.specs.declared.setup.Serial.TheVariants as serial
 use Rattle.receiver_core.specs.Serials.{serial_reading, serial_steps}
-use Rattle.receiver_core.specs.SentReports.{counter_of, frames_with, last_counter, report, sent_reports, serial_report, serial_reports, statuses_of, step_reports, value_reports}
+use Rattle.receiver_core.specs.SentReports.{last_counter, report, sent_reports, serial_report, statuses_of, value_reports}
 use Rattle.receiver_core.specs.SentTraces.{FitSerial, IsFrame, IsSentTrace, SentTurn, frame_in, heard_reports, sending_in, sent_from_first, sent_turns, turns_of}
 
 -- ---- frames as they are sent

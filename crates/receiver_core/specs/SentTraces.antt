@@ -1,5 +1,5 @@
 -- Honest traces of a SENT channel, and the reports that they have to give (frames and serial messages: SAE J2716; the bounds and the order of reports: this project's own).
-use Rattle.std.specs.Prelude.{◌≡◌, ℕ, zero, suc, List, [], ◌∷◌, ◌++◌, All, Option, None, Some, flat_map, map}
+use Rattle.std.specs.Prelude.{ℕ, suc, List, [], ◌∷◌, ◌++◌, All, Option, None, Some, flat_map, map}
 use Rattle.line_base.specs.Edges.{NumberedEdge}
 use Rattle.sent_frame.specs.declared.frame.SentFrame.{SentFrame}
 use Rattle.sent_frame.specs.Setup.{Settings}

@@ -1,5 +1,5 @@
 -- Honest traces of an SPC channel, and the reports that they have to give (the frame of an answer: SAE J2716; the bounds: this project's own).
-use Rattle.std.specs.Prelude.{ℕ, List, [], ◌∷◌, All, flat_map}
+use Rattle.std.specs.Prelude.{List, [], ◌∷◌, All, flat_map}
 use Rattle.line_base.specs.Edges.{NumberedEdge}
 use Rattle.spc_link.specs.Setup.{Settings}
 use Rattle.spc_tolerance.specs.Trains.{SpcMessage, Answer, Silent}

@@ -18,7 +18,8 @@ use Rattle.tolerance.specs.Recorded.{IsHeard}
 use Rattle.tolerance.specs.Ticks.{IsTick, IsOwnTick}
 use Rattle.tolerance.proofs.HeardPulses.{calibration_heard, calibrations_steady, never_long, nibble_short, pause_heard, value_heard}
 use Rattle.sent_tolerance.specs.FromFirst.{pulse_count}
-use Rattle.sent_tolerance.specs.Trains.{IsSent, Sending, lengths_of, pulses_sent, DriftsTo}
+use Rattle.sent_tolerance.specs.Trains.{IsSent, Sending, pulses_sent, DriftsTo}
+use Rattle.tolerance.specs.Pulses.{lengths_of}
 use Rattle.sent_tolerance.proofs.FrameTicks.{values_in, pause_ticks, ticks_apart, values_small, length_values, length_ticks}
 use Rattle.sent_tolerance.proofs.Steps.{reading, over_pulse, over_frame, found_frame, found_pause, found_steady}
 

@@ -16,7 +16,8 @@ use Rattle.sent_frame.proofs.SentTicks.{value_ticks}
 use Rattle.tolerance.specs.Recorded.{AreRecorded}
 use Rattle.tolerance.proofs.HeardPulses.{calibration_heard}
 use Rattle.sent_tolerance.specs.FromFirst.{pulse_count, heard_from, heard_of, good_step}
-use Rattle.sent_tolerance.specs.Trains.{Sending, lengths_of, pulses_sent, falls_behind, ideal_falls, IsSent, IsTrain}
+use Rattle.sent_tolerance.specs.Trains.{Sending, pulses_sent, ideal_falls, IsSent, IsTrain}
+use Rattle.tolerance.specs.Pulses.{falls_behind, lengths_of}
 use Rattle.sent_tolerance.specs.Traces.{IsHonest}
 use Rattle.sent_tolerance.proofs.FrameTicks.{setup_range, values_in, pause_ticks, ticks_apart, values_small, length_pulses}
 use Rattle.sent_tolerance.proofs.Steps.{reading, reading_none}

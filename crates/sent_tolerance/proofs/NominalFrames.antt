@@ -16,7 +16,8 @@ use Rattle.tolerance.specs.Recorded.{AreRecorded, OpensAfter}
 use Rattle.tolerance.specs.Ticks.{IsOwnTick}
 use Rattle.sent_tolerance.specs.Nominal.{AreJittered, edges_from, edges_of, nominal_falls, told_in_ns}
 use Rattle.sent_tolerance.specs.Traces.{IsHonest}
-use Rattle.sent_tolerance.specs.Trains.{DriftsTo, FitsSetup, IsSent, IsTrain, Sending, falls_behind, ideal_falls, lengths_of}
+use Rattle.sent_tolerance.specs.Trains.{DriftsTo, FitsSetup, IsSent, IsTrain, Sending, ideal_falls}
+use Rattle.tolerance.specs.Pulses.{falls_behind, lengths_of}
 use Rattle.sent_tolerance.proofs.FrameTicks.{setup_range}
 use Rattle.sent_tolerance.proofs.HeardTrains.{frames_of, lengths_sent}
 use Rattle.sent_tolerance.proofs.RecordedFalls.{times_of}

@@ -12,7 +12,7 @@ use Rattle.sent_frame.specs.Reading.{Hunting, may_calibrate}
 use Rattle.sent_frame.proofs.SentTicks.{value_ticks}
 use Rattle.tolerance.specs.Ticks.{IsTick, IsOwnTick}
 use Rattle.tolerance.proofs.HeardPulses.{never_long, nibble_short}
-use Rattle.sent_tolerance.specs.Trains.{lengths_of}
+use Rattle.tolerance.specs.Pulses.{lengths_of}
 use Rattle.sent_tolerance.proofs.FrameTicks.{pause_ticks}
 use Rattle.sent_tolerance.proofs.Steps.{reading, reading_none, over_last, over_pulse, found_false_start, found_none}
 use Rattle.sent_tolerance.proofs.HeardFrames.{AreHeard}

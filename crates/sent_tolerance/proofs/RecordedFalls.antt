@@ -9,7 +9,7 @@ use Rattle.sent_frame.specs.Pulses.{Fall, pulses_after, pulses_between}
 use Rattle.sent_frame.specs.Reading.{place_at}
 use Rattle.tolerance.specs.Recorded.{AreRecorded, IsRecorded}
 use Rattle.tolerance.proofs.HeardPulses.{heard_between}
-use Rattle.sent_tolerance.specs.Trains.{falls_behind}
+use Rattle.tolerance.specs.Pulses.{falls_behind}
 use Rattle.sent_tolerance.proofs.HeardFrames.{AreHeard}
 
 -- the times of falls

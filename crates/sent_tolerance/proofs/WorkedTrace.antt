@@ -12,7 +12,8 @@ use Rattle.tolerance.specs.Recorded.{AreRecorded}
 use Rattle.tolerance.specs.Ticks.{IsNear, IsOwnTick}
 use Rattle.sent_tolerance.specs.FromFirst.{heard_from, heard_of}
 use Rattle.sent_tolerance.specs.Traces.{IsHonest}
-use Rattle.sent_tolerance.specs.Trains.{IsTrain, falls_behind, ideal_falls}
+use Rattle.sent_tolerance.specs.Trains.{IsTrain, ideal_falls}
+use Rattle.tolerance.specs.Pulses.{falls_behind}
 use Rattle.sent_tolerance.specs.Worked.{cut_frame, whole_frame, worked_edges, worked_reports, worked_sendings, worked_setup}
 use Rattle.sent_tolerance.proofs.HeardTrains.{read_honest}
 

@@ -3,6 +3,7 @@ use Rattle.std.specs.Prelude.{◌≡◌, ℕ, ◌+◌, ◌*◌, ◌<◌, ◌≤�
 use Rattle.sent_frame.specs.declared.frame.SentFrame.{SentFrame}
 use Rattle.sent_frame.specs.Setup.{Settings}
 use Rattle.sent_frame.specs.Frames.{ticks_of}
+use Rattle.tolerance.specs.Pulses.{falls_behind, lengths_of}
 use Rattle.tolerance.specs.Ticks.{IsTick, IsOwnTick, FollowsTick}
 
 -- a frame that is sent: how many ticks its pause has, where there is one; the tick of its calibration pulse; and the own tick of each pulse behind that (in ps)
@@ -12,20 +13,9 @@ pub record Sending : Type 0 where
   pub tick : ℕ
   pub own_ticks : List ℕ
 
--- the lengths of pulses that have so many ticks, of these lengths
-abbrev pub lengths_of : List ℕ → List ℕ → List ℕ
-lengths_of [] ticks = []
-lengths_of (count ∷ counts) [] = []
-lengths_of (count ∷ counts) (tick ∷ ticks) = count * tick ∷ lengths_of counts ticks
-
 -- the lengths of a frame's pulses, in ps
 abbrev pub pulses_sent : Settings → Sending → List ℕ
 pulses_sent s f = lengths_of (ticks_of s f.frame f.pause) (f.tick ∷ f.own_ticks)
-
--- the falls that end pulses of these lengths, which begin at this time
-unfoldable pub falls_behind : ℕ → List ℕ → List ℕ
-falls_behind time [] = []
-falls_behind time (pulse ∷ pulses) = (time + pulse) ∷ falls_behind (time + pulse) pulses
 
 -- the ideal falls of frames that are sent one after the other from this time on, in ps: one there, and one at the end of each pulse
 unfoldable pub ideal_falls : Settings → ℕ → List Sending → List ℕ

@@ -23,7 +23,8 @@ use Rattle.spc_link.specs.Reading.{answer_of, answered, at_fall, frame_of}
 use Rattle.tolerance.specs.Recorded.{IsHeard}
 use Rattle.tolerance.specs.Ticks.{IsTick, IsOwnTick}
 use Rattle.tolerance.proofs.HeardPulses.{calibration_heard, value_heard}
-use Rattle.spc_tolerance.specs.Trains.{FitsSetup, IsAnswerSent, SentAnswer, Trigger, lengths_of, pulses_sent, values_in}
+use Rattle.spc_tolerance.specs.Trains.{FitsSetup, IsAnswerSent, SentAnswer, Trigger, pulses_sent, values_in}
+use Rattle.tolerance.specs.Pulses.{lengths_of}
 
 -- ---- the values of an answer
 crc_below : (form : CrcForm) (nibbles : List ℕ) → crc_of form nibbles < 16

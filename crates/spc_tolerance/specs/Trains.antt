@@ -5,6 +5,7 @@ use Rattle.line_base.specs.declared.edge.Span.{Span}
 use Rattle.sent_frame.specs.declared.frame.SentFrame.{SentFrame}
 use Rattle.sent_frame.specs.Reading.{covered, crc_of}
 use Rattle.spc_link.specs.Setup.{Settings}
+use Rattle.tolerance.specs.Pulses.{falls_behind, lengths_of}
 use Rattle.tolerance.specs.Ticks.{IsTick, IsOwnTick}
 
 -- ---- messages and how they are sent
@@ -49,17 +50,6 @@ values_in s frame = frame.status ∷ (frame.nibbles ++ crc_of s.sent.crc (covere
 -- the ticks of an answer's pulses: 56 for the calibration pulse, and 12 and the value for each value
 abbrev pub ticks_in : Settings → SentFrame → List ℕ
 ticks_in s frame = 56 ∷ map (λ value. 12 + value) (values_in s frame)
-
--- the lengths of pulses that have so many ticks, of these lengths
-abbrev pub lengths_of : List ℕ → List ℕ → List ℕ
-lengths_of [] ticks = []
-lengths_of (count ∷ counts) [] = []
-lengths_of (count ∷ counts) (tick ∷ ticks) = count * tick ∷ lengths_of counts ticks
-
--- the falls that end pulses of these lengths, which begin at this time
-unfoldable pub falls_behind : ℕ → List ℕ → List ℕ
-falls_behind time [] = []
-falls_behind time (pulse ∷ pulses) = (time + pulse) ∷ falls_behind (time + pulse) pulses
 
 -- the lengths of an answer's pulses
 abbrev pub pulses_sent : Settings → SentAnswer → List ℕ
