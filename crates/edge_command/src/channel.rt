@@ -71,7 +71,7 @@ impl Channel {
 
     /// Takes the next edge of the list, which is on a line of the channel, and adds the reports that it gives to
     /// none.
-    #[inline(never)]
+    #[inline(always)]
     fn take_own_edge(&mut self, edge: Edge, reports: &mut ArrayVec<Report, 8>)
         requires own { is_on self.old.setup edge ≡ true }
         requires in_range { edge.time ≤ 10 ^ 15 }

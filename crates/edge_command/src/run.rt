@@ -221,7 +221,7 @@ impl Run {
     }
 
     /// Takes the next byte, and writes the lines of what it ends.
-    #[inline(always)]
+    #[inline(never)]
     fn take_byte<K: Sink>(&mut self, byte: u8, out: &mut K) -> Result<(), Stop>
         requires { (bytes : List ℕ) × Reads self.old bytes }
         ensures decoding { decoding_of self.new ≡ decoding_of self.old }
