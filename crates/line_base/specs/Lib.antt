@@ -9,6 +9,7 @@ pub mod Nibbles
 pub mod Spans
 pub mod Edges
 pub mod Orderly
+pub mod Thinned
 pub mod Readers
 pub mod Readings
 pub mod Standing

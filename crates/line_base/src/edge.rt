@@ -5,7 +5,7 @@
 pub const MAX_TIME: u64 = 1_000_000_000_000_000;
 
 /// An edge of a line: a change of its level, or the first level that is known of it.
-#[derive(Clone, Copy, Debug, PartialEq, Eq)]
+#[derive(Clone, Copy, Debug, Default, PartialEq, Eq)]
 pub struct Edge {
     /// The line, 0 to 15.
     pub line: u8,

@@ -43,7 +43,7 @@ pub(crate) fn push_channel<const N: usize>(out: &mut ArrayString<N>, channel: u8
 }
 
 /// The value of a decimal digit, or `Number`.
-pub(crate) fn digit_of(byte: u8) -> Result<u8, TextFault>
+pub fn digit_of(byte: u8) -> Result<u8, TextFault>
     ensures value { result ≡ digit_in byte }
     ensures below { IfOk result (λ digit. digit < 10) }
 {
@@ -88,7 +88,7 @@ fn value_of(digits: &[u8]) -> Option<u64>
 }
 
 /// Whether a field begins with a zero that others follow.
-fn has_leading_zero(field: &[u8]) -> bool
+pub fn has_leading_zero(field: &[u8]) -> bool
     ensures { result ≡ has_leading_zero field.now }
 {
     match field {

@@ -24,7 +24,7 @@ pub(crate) fn next_field<'a>(rest: Rest<'a>) -> Result<(&'a [u8], Rest<'a>), Tex
 }
 
 /// Whether a word is this one.
-pub(crate) fn spells(word: &[u8], name: &[u8]) -> bool
+pub fn spells(word: &[u8], name: &[u8]) -> bool
     ensures { result ≡ bytes_eq word.now name.now }
 {
     word == name

@@ -64,7 +64,7 @@ fn nibble_of(byte: u8) -> Result<u8, TextFault>
 }
 
 /// The number of a field of so many hexadecimal digits, at most 7; `Number` for another spelling.
-fn number_of(width: usize, field: &[u8]) -> Result<u32, TextFault>
+pub fn number_of(width: usize, field: &[u8]) -> Result<u32, TextFault>
     requires { width ≤ 7 }
     ensures value { result ≡ hex_in width field.now }
     ensures below { IfOk result (λ number. number < 16 ^ width) }
@@ -95,7 +95,7 @@ fn number_to(width: usize, most: u32, field: &[u8]) -> Result<u32, TextFault>
 }
 
 /// The data nibbles of a field of 1 to 6 hexadecimal digits; `Number` for another spelling.
-fn data_of(field: &[u8]) -> Result<Nibbles, TextFault>
+pub fn data_of(field: &[u8]) -> Result<Nibbles, TextFault>
     ensures { result ≡ data_in field.now }
 {
     if field.is_empty() || field.len() > 6 {

@@ -11,7 +11,7 @@ mod downlink;
 mod fault;
 mod fields;
 mod gaps;
-mod hex;
+pub mod hex;
 mod line;
 mod psi5;
 mod rules;
@@ -21,7 +21,8 @@ mod spc;
 mod tests;
 mod totals;
 
-pub use decimal::push_decimal;
+pub use decimal::{digit_of, has_leading_zero, push_decimal};
 pub use fault::TextFault;
+pub use fields::spells;
 pub use line::{LINE_ROOM, read_report, write_report};
 pub use totals::{TOTAL_ROOM, write_total};
