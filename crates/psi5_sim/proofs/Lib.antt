@@ -1,0 +1,10 @@
+pub mod BurstTimes
+pub mod PushedEdges
+pub mod Psi5Outcomes
+pub mod AlternatingEdges
+pub mod FramePlaces
+pub mod Psi5Setups
+pub mod Psi5Lines
+pub mod Psi5Edges
+pub mod Psi5Times
+pub mod Psi5Runs

@@ -1,0 +1,2 @@
+pub mod Psi5States
+pub mod Psi5Sims

@@ -1,0 +1,4 @@
+pub mod Sims
+pub mod Refusals
+pub mod Played
+pub mod Transactions

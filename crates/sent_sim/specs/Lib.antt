@@ -1,0 +1,2 @@
+pub mod SentStates
+pub mod SentSims

@@ -1,0 +1,2 @@
+pub mod SpcStates
+pub mod SpcSims

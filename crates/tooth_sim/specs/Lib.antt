@@ -1,0 +1,2 @@
+pub mod ToothStates
+pub mod ToothSims
