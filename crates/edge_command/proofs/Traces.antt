@@ -16,7 +16,9 @@ use Rattle.edge_command.specs.Channels.{Decoding, items_on, reports_on, final_on
 use Rattle.edge_command.specs.Tellings.{told_of}
 use Rattle.edge_command.specs.Traces.{edges_on, TellsMessages, TellsFronts, IsWholeText, IsTextSoFar, IsInputText, ToldTraces}
 use Rattle.link_words.specs.declared.command.Command.{Command}
-use Rattle.edge_command.specs.Ended.{Ended, decoding_in}
+use Rattle.link_words.specs.declared.command.Command.TheVariants.{Decode, Check, Simulate, Loop}
+use Rattle.edge_command.specs.Ended.{Ended}
+use Rattle.edge_command.specs.Ends.{CommandEnded, CommandTold}
 use Rattle.edge_command.proofs.Tellings.{final-told, final_tells, so_far-told, so_far_tells, text-is-told, whole-is-told}
 
 tells-messages : (setups : List ChannelSetup) (edges : List Edge) → TellsMessages setups edges (final_tells setups edges)
@@ -56,9 +58,15 @@ told-traces decoding (reason.WriteFault (Some lane)) bytes left' got got' ended 
 told-traces decoding (reason.Words place fault) bytes left' got got' ended = ended
 
 -- the same of accepted words and of a source that tells its bytes
+told-of-command : (command : Command) (bytes : List ℕ) (why : Reason) (left' got got' : Option (List ℕ)) → CommandEnded command why bytes left' got got' → CommandTold command why bytes got got'
+told-of-command (Decode setups) bytes why left' got got' ended = told-traces (record { setups = setups; told = true }) why bytes left' got got' ended
+told-of-command (Check setups) bytes why left' got got' ended = told-traces (record { setups = setups; told = false }) why bytes left' got got' ended
+told-of-command (Simulate seed setup) bytes why left' got got' ended = tt
+told-of-command (Loop seed count setup) bytes why left' got got' ended = tt
+
 pub told-of-run : {E : Type 0} (words : Result Command E) (left : Option (List ℕ)) (why : Reason) (left' got got' : Option (List ℕ))
-    → IfOk words (λ command. IfSome left (λ bytes. Ended (decoding_in command) why bytes left' got got'))
-    → IfOk words (λ command. IfSome left (λ bytes. ToldTraces (decoding_in command) why bytes got got'))
-told-of-run (Ok command) (Some bytes) why left' got got' ended = told-traces (decoding_in command) why bytes left' got got' ended
+    → IfOk words (λ command. IfSome left (λ bytes. CommandEnded command why bytes left' got got'))
+    → IfOk words (λ command. IfSome left (λ bytes. CommandTold command why bytes got got'))
+told-of-run (Ok command) (Some bytes) why left' got got' ended = told-of-command command bytes why left' got got' ended
 told-of-run (Ok command) None why left' got got' ended = tt
 told-of-run (Err fault) left why left' got got' ended = tt

@@ -5,8 +5,6 @@ use Rattle.line_base.specs.Streams.{AppendsFront}
 use Rattle.line_base.specs.declared.reason.Reason.{Reason}
 use Rattle.line_base.specs.declared.reason.Reason.TheVariants as reason
 use Rattle.edge_trace.specs.Limits.{edges_of, fault_of, whole_edges_of, whole_fault_of}
-use Rattle.link_words.specs.declared.command.Command.{Command}
-use Rattle.link_words.specs.Commands.{setups_of_command, tells_reports}
 use Rattle.edge_command.specs.Channels.{Decoding, text_so_far, whole_text, text_of, is_marked}
 
 -- how far a run that stopped had read its source: at most 4,096 bytes behind bytes that have no fault and whose text is a front of what was written
@@ -41,7 +39,3 @@ Ended decoding reason.OutOfMemory bytes left' got got' = (left' ≡ Some bytes) 
 -- no lane is written to, and the words were accepted
 Ended decoding (reason.WriteFault (Some lane)) bytes left' got got' = ⊥
 Ended decoding (reason.Words place fault) bytes left' got got' = ⊥
-
--- what a command decodes and tells
-abbrev pub decoding_in : Command → Decoding
-decoding_in command = record { setups = setups_of_command command; told = tells_reports command }

@@ -6,5 +6,6 @@ pub mod Runs
 pub mod Totals
 pub mod Ended
 pub mod Traces
+pub mod Ends
 pub mod Counted
 pub mod Explained

@@ -3,27 +3,24 @@ ghost use Rattle.std.specs.Prelude.{All, ◌≢◌, ◌∷◌, true, ◌≡◌, 
 ghost use Rattle.line_base.specs.Reasons.{status_of};
 ghost use Rattle.line_base.specs.declared.reason.Reason.TheVariants as reason;
 ghost use Rattle.receiver_core.specs.Setups.{setup_fault_of};
-ghost use Rattle.link_words.specs.Commands.{words_read, refused};
-ghost use Rattle.edge_command.specs.Ended.{Ended, decoding_in};
-ghost use Rattle.edge_command.specs.Traces.{ToldTraces};
+ghost use Rattle.link_words.specs.Commands.{words_read, refused, setups_of_command};
+ghost use Rattle.edge_command.specs.Ended.{Ended};
+ghost use Rattle.edge_command.specs.Ends.{CommandEnded, CommandLooped, CommandSends, CommandTold, TakesNothing};
 ghost use Rattle.edge_command.specs.Followed.{AllFollow, setups_of};
 ghost use Rattle.edge_command.specs.Totals.{IsOfRun};
-ghost use Rattle.edge_command.specs.Counted.{OutputCounted, SourceCounted};
+ghost use Rattle.command_base.specs.Counted.{OutputCounted, SourceCounted};
 ghost use Rattle.line_base.specs.declared.faults.WordFault.{WordFault};
 
 use crate::channel::Channel;
 use crate::channels::channels_of;
 use crate::run::Run;
+use command_base::{MAX_PULLS, read_buffer};
 use line_base::{Failed, Reason, Sink, Source};
-use link_words::{WordsFault, read_words};
+use link_words::{Command, WordsFault, read_words};
+use loop_command::run_loop;
 use receiver_core::ChannelSetup;
+use simulate_command::simulate;
 use std::alloc::{AllocError, Global};
-
-/// How many bytes are pulled at once.
-const READ_SIZE: usize = 4_096;
-
-/// How many pulls that give a byte there are at most: byte number 2^36 ends the input.
-const MAX_PULLS: u64 = 68_719_476_736;
 
 /// How a run ended.
 #[derive(Clone, Copy, Debug, PartialEq, Eq)]
@@ -32,13 +29,6 @@ pub struct Plain {
     pub status: u8,
     /// The reason.
     pub reason: Reason,
-}
-
-/// A buffer for pulls, of 4,096 bytes.
-fn read_buffer(alloc: Global) -> Result<Vec<u8>, AllocError>
-    ensures { IfOk result (λ buffer. vec_len buffer ≡ 4096) }
-{
-    vec![in alloc; 0u8; READ_SIZE]
 }
 
 /// Decodes all of a source's bytes on these channels, at most 16, that have taken no edge, and puts the text,
@@ -100,25 +90,49 @@ fn decode_on<S: Source, K: Sink>(
     }
 }
 
-/// Why a run ended: its words are refused, there is no memory, or what decoding the source's bytes came to.
+/// What a command came to over a source's bytes.
+fn run_command<S: Source, K: Sink>(
+    alloc: Global,
+    command: &Command,
+    source: &mut S,
+    out: &mut K,
+) -> Reason
+    requires few { length (setups_of_command command.now) ≤ 16 }
+    requires faultless { All (λ setup. setup_fault_of setup ≡ None) (setups_of_command command.now) }
+    ensures words { (place : ℕ) (fault : WordFault) → result ≢ reason.Words place fault }
+    ensures memory { result ≡ reason.OutOfMemory → (source.new ≡ source.old) × (out.new ≡ out.old) }
+    ensures ended { IfSome (S.left source.old) (λ bytes. CommandEnded command.now result bytes (S.left source.new) (K.got out.old) (K.got out.new)) }
+    ensures sends { IfSome (S.left source.old) (λ bytes. CommandSends command.now result bytes (K.got out.old) (K.got out.new)) }
+    ensures looped { CommandLooped command.now result (K.got out.old) (K.got out.new) }
+    ensures unread { TakesNothing command.now → source.new ≡ source.old }
+    ensures source { SourceCounted result (S.faults source.old) (S.faults source.new) }
+    ensures output { OutputCounted result (K.faults out.old) (K.faults out.new) }
+{
+    match command {
+        Command::Decode(setups) => decode_on(alloc, setups.list(), true, source, out),
+        Command::Check(setups) => decode_on(alloc, setups.list(), false, source, out),
+        Command::Simulate { seed, setup } => simulate(alloc, *seed, setup, source, out),
+        Command::Loop { seed, count, setup } => run_loop(*seed, *count, setup, out),
+    }
+}
+
+/// Why a run ended: its words are refused, or what their command came to.
 fn run<S: Source, K: Sink>(alloc: Global, words: &[String], source: &mut S, out: &mut K) -> Reason
     ensures words { (place : ℕ) (fault : WordFault) →
         (result ≡ reason.Words place fault) ↔ (words_read (map string_bytes words.now) ≡ refused place fault) }
     ensures refused { IsErr (words_read (map string_bytes words.now)) → (source.new ≡ source.old) × (out.new ≡ out.old) }
     ensures memory { result ≡ reason.OutOfMemory → (source.new ≡ source.old) × (out.new ≡ out.old) }
     ensures ended { IfOk (words_read (map string_bytes words.now)) (λ command. IfSome (S.left source.old)
-        (λ bytes. Ended (decoding_in command) result bytes (S.left source.new) (K.got out.old) (K.got out.new))) }
+        (λ bytes. CommandEnded command result bytes (S.left source.new) (K.got out.old) (K.got out.new))) }
+    ensures sends { IfOk (words_read (map string_bytes words.now)) (λ command. IfSome (S.left source.old)
+        (λ bytes. CommandSends command result bytes (K.got out.old) (K.got out.new))) }
+    ensures looped { IfOk (words_read (map string_bytes words.now)) (λ command. CommandLooped command result (K.got out.old) (K.got out.new)) }
+    ensures unread { IfOk (words_read (map string_bytes words.now)) (λ command. TakesNothing command → source.new ≡ source.old) }
     ensures source { SourceCounted result (S.faults source.old) (S.faults source.new) }
     ensures output { OutputCounted result (K.faults out.old) (K.faults out.new) }
 {
     match read_words(words) {
-        Ok(command) => decode_on(
-            alloc,
-            command.setups(),
-            command.tells_reports(),
-            source,
-            out,
-        ),
+        Ok(command) => run_command(alloc, &command, source, out),
         Err(WordsFault { place, fault }) => Reason::Words { place, fault },
     }
 }
@@ -141,12 +155,21 @@ pub fn run_plain<S: Source, K: Sink>(
 
     // Where source and sink tell their bytes: what was read and written, for each reason.
     ensures ended { IfOk (words_read (map string_bytes words.now)) (λ command. IfSome (S.left source.old)
-        (λ bytes. Ended (decoding_in command) result.reason bytes (S.left source.new) (K.got out.old) (K.got out.new))) }
+        (λ bytes. CommandEnded command result.reason bytes (S.left source.new) (K.got out.old) (K.got out.new))) }
 
     // Of each channel whose edges are an honest trace of some messages exactly the reports of these messages are
     // told, from the first whole frame on, and of a trace that stopped earlier the first of them.
     ensures tolerance { IfOk (words_read (map string_bytes words.now)) (λ command. IfSome (S.left source.old)
-        (λ bytes. ToldTraces (decoding_in command) result.reason bytes (K.got out.old) (K.got out.new))) }
+        (λ bytes. CommandTold command result.reason bytes (K.got out.old) (K.got out.new))) }
+
+    // Where all was read and written, the rows of a simulation are those of edges that are an honest trace of its
+    // messages.
+    ensures sends { IfOk (words_read (map string_bytes words.now)) (λ command. IfSome (S.left source.old)
+        (λ bytes. CommandSends command result.reason bytes (K.got out.old) (K.got out.new))) }
+
+    // A loop has written its line, or a front of it, and takes nothing from the source.
+    ensures looped { IfOk (words_read (map string_bytes words.now)) (λ command. CommandLooped command result.reason (K.got out.old) (K.got out.new)) }
+    ensures unread { IfOk (words_read (map string_bytes words.now)) (λ command. TakesNothing command → source.new ≡ source.old) }
 
     // A fault is answered exactly where it was counted, and none is passed over.
     ensures source { SourceCounted result.reason (S.faults source.old) (S.faults source.new) }

@@ -80,7 +80,8 @@ impl Run {
     ghost use Rattle.edge_trace.specs.Limits.{edges_of, whole_edges_of};
     ghost use Rattle.edge_command.specs.Runs.{Reads, StoppedAt, Stopped, TookBytes, TookPull, decoding_of, put_out, written_by};
     ghost use Rattle.edge_command.specs.Totals.{LastTaken, Finished, IsOfRun};
-    ghost use Rattle.edge_command.specs.Counted.{OutputCounted, PartCounted, StopCounted};
+    ghost use Rattle.command_base.specs.Counted.{OutputCounted, PartCounted};
+    ghost use Rattle.edge_command.specs.Counted.{StopCounted};
 
     /// A run over these channels, at most 16, that have taken no edge; with a line for each report where
     /// lines are told.

@@ -6,6 +6,7 @@ mod links;
 mod lists;
 mod messages;
 mod refused;
+mod simulated;
 mod traces;
 
 use crate::{Plain, run_plain};

@@ -1,13 +1,14 @@
 -- Which words of the command line are accepted; this project's own.
-use Rattle.std.specs.Prelude.{ℕ, ◌+◌, nat_le, Bool, true, false, Result, Ok, Err, List, [], ◌∷◌, length, take, if◌then◌else◌, codes}
+use Rattle.std.specs.Prelude.{ℕ, ◌+◌, nat_le, nat_eq, ok_or, Bool, true, false, Result, Ok, Err, List, [], ◌∷◌, length, take, if◌then◌else◌, codes}
 use Rattle.std.specs.Str.{bytes_eq}
-use Rattle.std.specs.List.{list_any}
 use Rattle.line_base.specs.declared.faults.WordFault.{WordFault}
 use Rattle.line_base.specs.declared.faults.WordFault.TheVariants as fault
 use Rattle.receiver_core.specs.declared.setup.ChannelSetup.{ChannelSetup}
 use Rattle.link_words.specs.declared.command.Command.{Command}
-use Rattle.link_words.specs.declared.command.Command.TheVariants.{Decode, Check}
+use Rattle.link_words.specs.declared.command.Command.TheVariants.{Decode, Check, Simulate, Loop}
 use Rattle.link_words.specs.declared.command.WordsFault.{WordsFault}
+use Rattle.link_words.specs.Seeds.{seed_in}
+use Rattle.link_words.specs.Spans.{number_within}
 use Rattle.link_words.specs.Specs.{spec_read}
 use Rattle.line_base.specs.Steps.{◌>>=◌, check}
 
@@ -44,9 +45,48 @@ setups_read words = do
   _ ← check (nat_le (length words) 16) (fault_at 18 fault.Channels)
   Ok setups
 
+-- the seed that the word of this number writes; Value for any other word
+abbrev pub seed_at : ℕ → List ℕ → Result ℕ WordsFault
+seed_at place text = ok_or (seed_in text) (fault_at place fault.Value)
+
+-- the setup that a SPEC, the word of this number, names, where it is the last word: Missing where it isn't there, then the fault of the SPEC, and Extra for a word behind it
+unfoldable pub last_spec_at : ℕ → List (List ℕ) → Result ChannelSetup WordsFault
+last_spec_at place [] = refused place fault.Missing
+last_spec_at place (spec ∷ others) = do
+  setup ← spec_at place spec
+  _ ← check (nat_eq (length others) 0) (fault_at (place + 1) fault.Extra)
+  Ok setup
+
+-- the simulation that the words behind the command ask for: a seed at word 2, and a SPEC at word 3, which is the last
+unfoldable pub simulation_read : List (List ℕ) → Result Command WordsFault
+simulation_read [] = refused 2 fault.Missing
+simulation_read (seed ∷ words) = do
+  number ← seed_at 2 seed
+  setup ← last_spec_at 3 words
+  Ok (Simulate number setup)
+
+-- the count that the word of this number writes, 0 to 100,000; Value for any other word
+abbrev pub count_at : ℕ → List ℕ → Result ℕ WordsFault
+count_at place text = ok_or (number_within 0 100000 text) (fault_at place fault.Value)
+
+-- the loop by this seed that the words behind it ask for: a count at word 3, and a SPEC at word 4, which is the last
+unfoldable pub loop_behind : ℕ → List (List ℕ) → Result Command WordsFault
+loop_behind seed [] = refused 3 fault.Missing
+loop_behind seed (count ∷ words) = do
+  number ← count_at 3 count
+  setup ← last_spec_at 4 words
+  Ok (Loop seed number setup)
+
+-- the loop that the words behind the command ask for: a seed at word 2, and what comes behind it
+unfoldable pub loop_read : List (List ℕ) → Result Command WordsFault
+loop_read [] = refused 2 fault.Missing
+loop_read (seed ∷ words) = do
+  number ← seed_at 2 seed
+  loop_behind number words
+
 -- the fault of a first word that is no command which is built: NotBuilt for a command that isn't built yet, and Command for what is no command
 unfoldable pub command_fault : List ℕ → WordFault
-command_fault command = if list_any (bytes_eq command) (codes "capture" ∷ codes "simulate" ∷ codes "loop" ∷ []) then fault.NotBuilt else fault.Command
+command_fault command = if bytes_eq command (codes "capture") then fault.NotBuilt else fault.Command
 
 -- what the words ask for, or the first refused word
 unfoldable pub words_read : List (List ℕ) → Result Command WordsFault
@@ -54,14 +94,20 @@ words_read [] = refused 1 fault.Missing
 words_read (command ∷ words) =
     if bytes_eq command (codes "decode") then (setups_read words >>= λ setups. Ok (Decode setups))
     else (if bytes_eq command (codes "check") then (setups_read words >>= λ setups. Ok (Check setups))
-    else refused 1 (command_fault command))
+    else (if bytes_eq command (codes "simulate") then simulation_read words
+    else (if bytes_eq command (codes "loop") then loop_read words
+    else refused 1 (command_fault command))))
 
 -- the channels of a command, numbered from 0 in the order of their SPECs
 abbrev pub setups_of_command : Command → List ChannelSetup
 setups_of_command (Decode setups) = setups
 setups_of_command (Check setups) = setups
+setups_of_command (Simulate seed setup) = setup ∷ []
+setups_of_command (Loop seed count setup) = setup ∷ []
 
--- the command writes the lines of reports; else the totals alone
+-- the command writes a line of each report
 abbrev pub tells_reports : Command → Bool
 tells_reports (Decode setups) = true
 tells_reports (Check setups) = false
+tells_reports (Simulate seed setup) = false
+tells_reports (Loop seed count setup) = false

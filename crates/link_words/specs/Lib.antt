@@ -8,4 +8,5 @@ pub mod Psi5
 pub mod Spc
 pub mod Tooth
 pub mod Specs
+pub mod Seeds
 pub mod Commands

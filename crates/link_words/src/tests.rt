@@ -1,7 +1,9 @@
 //! What no clause says, that the definitions are the grammar which was meant: words with what they ask for.
 
 mod keys;
+mod loops;
 mod psi5;
+mod simulate;
 mod spc;
 mod tooth;
 
@@ -236,8 +238,7 @@ fn the_first_refused_word_is_told(rt: HostRuntime) -> Result<(), AllocError> {
             ("Decode sent:line=0", 1, WordFault::Command),
             ("play sent:line=16", 1, WordFault::Command),
             ("capture", 1, NotBuilt),
-            ("simulate", 1, NotBuilt),
-            ("loop", 1, NotBuilt),
+            ("Simulate 7 sent:line=0", 1, WordFault::Command),
             ("decode", 2, Missing),
             ("check", 2, Missing),
             ("check sent:line=16", 2, Value),

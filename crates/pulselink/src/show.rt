@@ -3,7 +3,7 @@ ghost use Rattle.std.specs.Prelude.{◌≡◌, ◌⊎◌, None};
 ghost use Rattle.std.specs.Io.KnownBytes.{Appends};
 ghost use Rattle.line_base.specs.Streams.{AppendsFront};
 ghost use Rattle.line_base.specs.declared.reason.Reason.TheVariants as reason;
-ghost use Rattle.edge_command.specs.Counted.{OutputCounted};
+ghost use Rattle.command_base.specs.Counted.{OutputCounted};
 ghost use Rattle.pulselink.specs.About.{about_text};
 
 use crate::about::About;

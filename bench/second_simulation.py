@@ -1,0 +1,120 @@
+#!/usr/bin/env python3
+"""Simulates random messages a second way, and compares with what the program writes.
+
+    bench/second_simulation.py [--only simulate|loop] [RUNS [SEED]]      100 runs of each command unless said
+    bench/second_simulation.py --self-test
+
+The simulation, in bench/readings/simulated.py, is plain and shares no code with the program; what its rows say is read
+by the second reading. The messages of `simulate` are those of a script, now and then with one that comes out of order
+and with lines that are skipped. Ends with status 1 at the first run that differs, and says where.
+
+With --self-test the random words are compared with the published ones, and one loop with what was worked out by hand.
+"""
+import argparse
+import pathlib
+import random
+import subprocess
+import sys
+
+from readings import psi5, sent, spc, tooth
+from readings.simulated import Wobble, played, scripted, stretches, sums, text_of
+
+PROGRAM = pathlib.Path(__file__).parent.parent / ".built" / "pulselink"
+KINDS = [sent, spc, psi5, tooth]
+
+
+def another_order(rng, messages):
+    """The messages, now and then with one of them twice, left out or moved."""
+    messages = list(messages)
+    for _ in range(rng.choice([0, 0, 1, 2])):
+        if messages:
+            place = rng.randrange(len(messages))
+            messages[place : place + 1] = rng.choice([[], [messages[place]] * 2, [messages[place], rng.choice(messages)]])
+    return messages
+
+
+def lines_of(rng, messages):
+    """The lines of messages among empty lines and comments, and the number of each message's line."""
+    lines, numbers = [], []
+    for message in messages:
+        lines += rng.choice([[]] * 9 + [[""], ["# a comment"], [""] * 3])
+        lines.append(text_of(message))
+        numbers.append(len(lines))
+    return lines, numbers
+
+
+def simulated(rng, kind):
+    """The words, the input and what the program has to write: both outputs and the status."""
+    setup, seed = kind.random_setup(rng), rng.randrange(2**64)
+    messages = another_order(rng, scripted(setup, rng.randrange(2**64), rng.choice([0, 1, 3, 20, 60])))
+    lines, numbers = lines_of(rng, messages)
+    rows, refused = played(setup, seed, messages)
+    text = rng.choice(["\n", "\r\n"]).join(lines) + rng.choice(["", "\n"])
+    written = "".join(f"{time},{line},{level}\n" for time, line, level in rows)
+    if refused is None:
+        return ["simulate", str(seed), setup.spec()], text, written, "", 0
+    place, fault = refused
+    name = {"Order": "Order", "Late": "TooLarge"}[fault]
+    return ["simulate", str(seed), setup.spec()], text, written, f"input line {numbers[place]}: {name}\n", 3
+
+
+def looped(rng, kind, setup=None, seed=None, count=None):
+    """The same of a loop."""
+    setup = setup or kind.random_setup(rng)
+    seed = rng.choice([0, 2**64 - 1, rng.randrange(2**64)]) if seed is None else seed
+    count = rng.choice([0, 1, 17, 150]) if count is None else count
+    rows, refused = played(setup, seed, scripted(setup, (seed + 1) % 2**64, count))
+    assert refused is None, refused
+    good, bad = sums(setup, kind.read, rows)
+    parts = stretches(rows)
+    told = [sums(setup, kind.read, part, part is parts[-1]) for part in parts]
+    heard, marred = sum(one for one, _ in told), sum(one for _, one in told)
+    last = rows[-1][0] if rows else 0
+    line = f"sent {count} good {good} bad {bad} edges {len(rows)} last {last} thinned good {heard} bad {marred}\n"
+    assert (good, bad) == (count, 0), line
+    return ["loop", str(seed), str(count), setup.spec()], "", line, "", 0
+
+
+def differs(words, text, written, errors, status):
+    """Where the program differs, a text."""
+    run = subprocess.run([PROGRAM, *words], input=text.encode(), capture_output=True, check=False)
+    ours = (written, errors, status)
+    for name, one, other in zip(("output", "standard error", "status"), (run.stdout.decode(), run.stderr.decode(), run.returncode), ours):
+        if one != other:
+            return f"its {name} is\n{one}\nand not\n{other}"
+    return None
+
+
+def self_test():
+    wobble = Wobble(0)
+    low, high = wobble.pick(2**32), wobble.pick(2**32)
+    line = looped(None, sent, sent.Setup(0, serial="enhanced", pause=True), 1, 1000)[2]
+    right = "sent 1000 good 1000 bad 0 edges 20003 last 1857886805 thinned good 943 bad 0\n"
+    return (high << 32 | low) == 18195738587432868099 and line == right
+
+
+def main():
+    options = argparse.ArgumentParser(description=__doc__, formatter_class=argparse.RawDescriptionHelpFormatter)
+    options.add_argument("runs", nargs="?", type=int, default=100)
+    options.add_argument("seed", nargs="?", type=int, default=1)
+    options.add_argument("--only", choices=["simulate", "loop"])
+    options.add_argument("--self-test", action="store_true")
+    given = options.parse_args()
+    if given.self_test:
+        good = self_test()
+        print("the random words and the loop are right" if good else "the second simulation is wrong")
+        sys.exit(not good)
+    rng = random.Random(given.seed)
+    makers = {"simulate": simulated, "loop": looped}
+    for run in range(given.runs):
+        for name, make in makers.items():
+            if given.only in (None, name):
+                words, *right = make(rng, KINDS[run % len(KINDS)])
+                where = differs(words, *right)
+                if where:
+                    print(f"run {run} differs: {' '.join(words)}\n{right[0]}\n{where}", file=sys.stderr)
+                    sys.exit(1)
+    print(f"{given.runs} runs of {given.only or 'each command'} are alike")
+
+
+main()

@@ -1,0 +1,6 @@
+pub mod CountedReports
+pub mod LostEdges
+pub mod ThinnedListeners
+pub mod ScriptTurns
+pub mod Turns
+pub mod WrittenLines

@@ -1,0 +1,6 @@
+-- A new listener has got nothing.
+use Rattle.loop_command.proofs.ThinnedListeners.{got-none}
+use Rattle.loop_command.proofs.gaps.GapListener.new.Goals as goal
+
+pub returns : goal.returns
+returns c = got-none c.new.result c.args.setup c.new.ensures

@@ -1,0 +1,6 @@
+pub mod Scripted
+pub mod LostRuns
+pub mod Loops
+pub mod Listened
+pub mod Ended
+pub mod Running

@@ -1,0 +1,4 @@
+pub mod Rows
+pub mod Playing
+pub mod Simulations
+pub mod Runs
