@@ -81,7 +81,7 @@ impl Channel {
         ensures follows { (edges : List Edge) → Follows self.old edges → Follows self.new (edges ++ edge ∷ []) }
         ensures given { (edges : List Edge) → Follows self.old edges → reports.new.items ≡ reports_added self.old.setup edges edge }
     {
-        self.receiver.push_into(Item::Edge(edge), reports);
+        self.receiver.push_edge(edge, reports);
         if !reports.is_empty() {
             count_each(reports.as_slice(), &mut self.tally);
         }

@@ -231,11 +231,21 @@ pub fn take_edge<K: Sink>(
     match channels.split_first_mut() {
         None => Ok(()),
         Some((channel, others)) => {
+            // The other channels get an edge of their own, so that none has to be kept in memory for one channel.
+            let Edge { line, time, level } = edge;
             take_edge_on(channel, told, 0, edge, reports, text, out)?;
             if others.is_empty() {
                 return Ok(());
             }
-            take_edge_from(others, told, 1, edge, reports, text, out)
+            take_edge_from(
+                others,
+                told,
+                1,
+                Edge { line, time, level },
+                reports,
+                text,
+                out,
+            )
         }
     }
 }

@@ -2,8 +2,10 @@
 //!
 //! It keeps the bytes of the unfinished line, and judges the line at its end. Most bytes are only put
 //! behind the others: while the line has room, nothing else is looked at.
-ghost use Rattle.std.specs.Prelude.{◌≡◌, ℕ, ◌≤◌, IsTrue, IfSome};
+ghost use Rattle.std.specs.Prelude.{◌≡◌, ℕ, ◌≤◌, ◌^◌, min, Some, IsTrue, IfSome};
 ghost use Rattle.edge_trace.specs.Readings.{is_in_range};
+ghost use Rattle.edge_trace.specs.declared.form.Form.{Form as ListForm};
+ghost use Rattle.edge_trace.specs.declared.state.State.TheVariants as state;
 
 use crate::form::Form;
 use crate::levels::{Levels, is_edge, keep_levels};
@@ -42,14 +44,38 @@ pub struct EdgeReader {
     ghost fits: { room ≤ 512 },
 }
 
+/// How many bytes a line may have where so many may still stand in lines: at most 512.
+#[inline(always)]
+fn room_in(left: u64) -> usize
+    ensures room { result ≡ min 512 left }
+{
+    if left < LINE_LIMIT as u64 {
+        left as usize
+    } else {
+        LINE_LIMIT
+    }
+}
+
+/// Keeps the time of a row, 0 to 10^15 ns, where the form is known.
+#[inline(always)]
+fn keep_time(list: &mut Option<State>, time: u64)
+    requires in_range { IsTrue (is_in_range list.old) }
+    requires time { time ≤ 10 ^ 15 }
+    ensures in_range { IsTrue (is_in_range list.new) }
+    ensures kept { (form : ListForm) (before : ℕ) → list.old ≡ Some (state.Rows form before) → list.new ≡ Some (state.Rows form time) }
+{
+    if let Some(State::Rows(_, last)) = list {
+        *last = time;
+    }
+}
+
 impl EdgeReader {
-    ghost use Rattle.std.specs.Prelude.{◌≢◌, ◌<◌, ◌+◌, ◌-◌, ◌^◌, ◌==◌, ◌⊎◌, min, List, [], ◌∷◌, ◌++◌, length, take, filter, slice_index_or, Option, None, Some, Err, if◌then◌else◌};
+    ghost use Rattle.std.specs.Prelude.{◌≢◌, ◌<◌, ◌+◌, ◌-◌, ◌==◌, ◌⊎◌, List, [], ◌∷◌, ◌++◌, length, take, filter, slice_index_or, Option, None, Err, if◌then◌else◌};
     ghost use Rattle.std.specs.Option.{option_to_list};
     ghost use Rattle.line_base.specs.declared.faults.LineFault.{LineFault as Fault};
     ghost use Rattle.edge_trace.specs.Lines.{without_cr};
     ghost use Rattle.edge_trace.specs.EdgeLists.{Standing, content_read, is_new};
     ghost use Rattle.edge_trace.specs.declared.form.Form.TheVariants as variant;
-    ghost use Rattle.edge_trace.specs.declared.state.State.TheVariants as state;
     ghost use Rattle.edge_trace.specs.Limits.{fault_of, answers_of, whole_fault_of, whole_answers_of, line_number_of, last_line};
     ghost use Rattle.edge_trace.specs.PlainRows.{IsRowFront};
     ghost use Rattle.edge_trace.specs.Readings.{IsAt, IsForm, form_of};
@@ -155,7 +181,7 @@ impl EdgeReader {
         if count >= self.room {
             return (0, None);
         }
-        (count + 1, self.keep_row(form, edge, count))
+        (count + 1, self.keep_row(edge, count))
     }
 
     /// Takes the plain wide row that stands whole at the front of a block, with its LF, and gives how many bytes
@@ -187,13 +213,14 @@ impl EdgeReader {
         (count + 1, edges)
     }
 
-    /// Begins the next line behind a narrow row of so many bytes. Gives its edge, if it is one.
+    /// Begins the next line behind a narrow row of so many bytes, where no line is begun. Gives its edge, if it is one.
     #[inline(always)]
-    fn keep_row(&mut self, form: Form, edge: Edge, count: usize) -> Option<Edge>
-        requires form { IsForm form }
+    fn keep_row(&mut self, edge: Edge, count: usize) -> Option<Edge>
+        requires empty { self.old.line ≡ [] }
+        requires short { count < 512 }
         requires line { edge.line ≤ 15 }
         requires time { edge.time ≤ 10 ^ 15 }
-        ensures state { self.new.state ≡ Some (state.Rows form edge.time) }
+        ensures state { (form : ListForm) (before : ℕ) → self.old.state ≡ Some (state.Rows form before) → self.new.state ≡ Some (state.Rows form edge.time) }
         ensures room { self.new.room ≡ min 512 self.new.left }
         ensures line { self.new.line ≡ [] }
         ensures number { self.new.ended ≡ min (self.old.ended + 1) 18446744073709551615 }
@@ -203,7 +230,10 @@ impl EdgeReader {
         ensures levels { (line : ℕ) → slice_index_or self.new.levels line None ≡ (if edge.line == line then Some edge.level else slice_index_or self.old.levels line None) }
     {
         let told = is_edge(edge, &mut self.levels);
-        self.begin_behind(count, State::Rows(form, edge.time));
+        keep_time(&mut self.state, edge.time);
+        self.left = self.left.saturating_sub(count as u64 + 1);
+        self.room = room_in(self.left);
+        self.ended = self.ended.saturating_add(1);
         if told { Some(edge) } else { None }
     }
 
@@ -331,11 +361,7 @@ impl EdgeReader {
         ensures levels { self.new.levels ≡ self.old.levels }
     {
         self.state = Some(next);
-        self.room = if self.left < LINE_LIMIT as u64 {
-            self.left as usize
-        } else {
-            LINE_LIMIT
-        };
+        self.room = room_in(self.left);
         self.line.clear();
         self.ended = self.ended.saturating_add(1);
     }

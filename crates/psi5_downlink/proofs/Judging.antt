@@ -4,8 +4,10 @@
 --     one_at      an inserted one, where none is missed
 --     not_longer      a frame of which no bit is forbidden isn't too long
 --     length-without_ones, all_groups      how many bits the groups have
+--     goes-on, open-more      an interval that leaves a frame unfinished
 --     verdict-none, verdict-broken, verdict-unfinished, verdict-whole      what an interval comes to
-use Rattle.std.proofs.Common.{◌≡◌, ℕ, zero, suc, ◌+◌, ◌*◌, ◌-◌, ◌<◌, ◌≤◌, ◌⊎◌, Bool, true, false, if◌then◌else◌, None, Some, List, [], ◌∷◌, ◌++◌, length, take, drop, replicate, get_or, refl, sym, ◌∙◌, ap, subst, append_assoc, append-nil, inl, inr, arith}
+use Rattle.std.proofs.Common.{◌≡◌, ℕ, zero, suc, ◌+◌, ◌*◌, ◌-◌, ◌/◌, ◌%◌, ◌<◌, ◌≤◌, ◌⊎◌, Bool, true, false, if◌then◌else◌, None, Some, List, [], ◌∷◌, ◌++◌, length, take, drop, replicate, get_or, refl, sym, ◌∙◌, ap, subst, append_assoc, append-nil, inl, inr, arith}
+use Rattle.std.proofs.Math.Nat.{div-add-mod, mod-lt}
 use Rattle.std.proofs.lemmas.Bool.{cases_lt, eq-eqb, ne_eqb}
 use Rattle.std.proofs.lemmas.List.{length-append, length-drop, length-replicate}
 use Rattle.line_base.specs.declared.rule.Rule.{Rule}
@@ -14,6 +16,7 @@ use Rattle.psi5_downlink.specs.declared.down.Form.{Form}
 use Rattle.psi5_downlink.specs.declared.down.Form.TheVariants.{Short, Long, XLong}
 use Rattle.psi5_downlink.specs.declared.verdict.Verdict.TheVariants.{Broken, Unfinished}
 use Rattle.psi5_downlink.specs.Frames.{field_width, frame_length, group_count, without_ones}
+use Rattle.psi5_downlink.specs.Kept.{IsOpen, MayGoOn}
 use Rattle.psi5_downlink.specs.Reading.{bits_in, checked_groups, forbidden, misses_one, verdict}
 
 -- ---- the next inserted one
@@ -136,6 +139,70 @@ not_longer groups periods bits due fine = by_order (cases_lt (1 + 4 * groups) (l
         let none : false ≡ true = sym (zero_at bits (periods - 1) (1 + 4 * groups) (omega (arith, due)) more) ∙ allowed (bits ++ bits_in periods) groups fine (omega (arith, more, long bits (periods - 1))) in
         absurd cc
     by_order (inr fits) = omega (arith, fits, long bits (periods - 1))
+
+-- ---- an interval that leaves a frame unfinished
+-- no inserted one is missed where the zeros are bits of one group
+none-missed : (groups free missing : ℕ) (bits : List Bool) → misses_one bits ≡ false → length bits + free ≡ 4 * groups → free ≤ 3 → missing ≤ free → misses_one (bits ++ (replicate missing false ++ true ∷ [])) ≡ false
+unfolding misses_one
+none-missed groups free zero [] ones all few fits = refl
+none-missed groups free (suc missing) [] ones all few fits = absurd (omega (arith, all, few, fits))
+none-missed groups free missing (false ∷ bits) ones all few fits = absurd cc
+none-missed groups free zero (true ∷ []) ones all few fits = refl
+none-missed groups free (suc zero) (true ∷ []) ones all few fits = refl
+none-missed groups free (suc (suc zero)) (true ∷ []) ones all few fits = refl
+none-missed groups free (suc (suc (suc zero))) (true ∷ []) ones all few fits = refl
+none-missed groups free (suc (suc (suc (suc missing)))) (true ∷ []) ones all few fits = absurd (omega (arith, few, fits))
+none-missed groups free zero (true ∷ a ∷ []) ones all few fits = refl
+none-missed groups free (suc zero) (true ∷ a ∷ []) ones all few fits = refl
+none-missed groups free (suc (suc zero)) (true ∷ a ∷ []) ones all few fits = refl
+none-missed groups free (suc (suc (suc missing))) (true ∷ a ∷ []) ones all few fits = absurd (omega (arith, all, few, fits))
+none-missed groups free zero (true ∷ a ∷ b ∷ []) ones all few fits = refl
+none-missed groups free (suc zero) (true ∷ a ∷ b ∷ []) ones all few fits = refl
+none-missed groups free (suc (suc missing)) (true ∷ a ∷ b ∷ []) ones all few fits = absurd (omega (arith, all, few, fits))
+none-missed zero free missing (true ∷ a ∷ b ∷ c ∷ bits) ones all few fits = absurd (omega (arith, all))
+none-missed (suc groups) free missing (true ∷ a ∷ b ∷ c ∷ bits) ones all few fits = none-missed groups free missing bits ones (omega (arith, all)) few fits
+
+-- how many bits there are before the next inserted 1
+free_of : (count : ℕ) → 1 ≤ count → count ≤ 45 → ((count - 1) + (45 - count) % 4 ≡ 4 * (11 - (45 - count) / 4)) × ((45 - count) % 4 ≤ 3)
+free_of count some few =
+    let parts : 4 * ((45 - count) / 4) + (45 - count) % 4 ≡ 45 - count = div-add-mod (45 - count) 4 in
+    let below : (45 - count) % 4 < 4 = mod-lt (45 - count) (omega arith) in
+    (omega (arith, parts, below, some, few), omega (arith, below))
+
+-- whether an inserted one is missed, where no bit is forbidden
+none_of : (misses : Bool) → (if misses then Some SyncBit else None) ≡ None → misses ≡ false
+none_of true e = absurd cc
+none_of false e = refl
+
+pub goes-on : (form : Form) (bits : List Bool) (periods : ℕ) → length bits ≤ 38 → forbidden bits ≡ None → MayGoOn form (length bits) periods → forbidden (bits ++ bits_in periods) ≡ None
+goes-on form bits periods few fine may = subst (λ (n : ℕ). forbidden (bits ++ (replicate n false ++ true ∷ [])) ≡ None) (omega (arith, may.is)) (by_bits bits may.missing few fine may.fits)
+  where
+    by_bits : (bits : List Bool) (missing : ℕ) → length bits ≤ 38 → forbidden bits ≡ None → ((length bits ≡ 0) × (missing ≡ 1)) ⊎ ((1 ≤ length bits) × (missing ≤ (45 - length bits) % 4))
+        → forbidden (bits ++ (replicate missing false ++ true ∷ [])) ≡ None
+    by_bits [] missing few fine (inl first) = rw first.1 (rw (misses_few [] (omega arith)) refl)
+    by_bits [] missing few fine (inr later) = absurd (omega (arith, later.0))
+    by_bits (true ∷ bits) missing few fine fits = absurd cc
+    by_bits (false ∷ bits) missing few fine (inl first) = absurd (omega (arith, first.0))
+    by_bits (false ∷ bits) missing few fine (inr later) =
+        let count = suc (length bits) in
+        let free = free_of count (omega arith) (omega (arith, few)) in
+        let none : misses_one (bits ++ (replicate missing false ++ true ∷ [])) ≡ false =
+        none-missed (11 - (45 - count) / 4) ((45 - count) % 4) missing bits (none_of (misses_one bits) fine) (omega (arith, free.0)) free.1 later.1 in
+        ap (λ (m : Bool). if m then Some SyncBit else None) none
+
+-- a frame that isn't whole has at most 37 bits
+pub open-few : (form : Form) (bits : List Bool) → length bits < frame_length form → length bits ≤ 38
+open-few Short bits due = omega (arith, due)
+open-few Long bits due = omega (arith, due)
+open-few XLong bits due = omega (arith, due)
+
+pub open-more : (form : Form) (bits joined : List Bool) (periods : ℕ) → joined ≡ bits ++ bits_in periods → IsOpen form bits → MayGoOn form (length bits) periods → IsOpen form joined
+open-more form bits joined periods is before may =
+    let longer : length (bits ++ bits_in periods) ≡ length bits + (periods - 1) + 1 = long bits (periods - 1) in
+    record {
+      due = omega (arith, ap length is, longer, may.is, may.is_short);
+      allowed = ap forbidden is ∙ goes-on form bits periods (open-few form bits before.due) before.allowed may;
+    }
 
 -- ---- what an interval comes to
 pub due_more : (form : Form) (periods : ℕ) (bits joined : List Bool) → joined ≡ bits ++ bits_in periods → length bits < frame_length form → forbidden joined ≡ None

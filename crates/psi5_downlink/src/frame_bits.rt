@@ -51,6 +51,15 @@ impl FrameBits {
         self.count += 1;
     }
 
+    /// How many bits there are, at most 44.
+    #[inline]
+    pub fn len(&self) -> usize
+        ensures value { result ≡ length self.now }
+        ensures few { result ≤ 44 }
+    {
+        self.count
+    }
+
     /// The bits, at most 44.
     pub fn as_slice(&self) -> &[bool]
         ensures value { result.now ≡ self.now }

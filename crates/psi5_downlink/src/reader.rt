@@ -1,5 +1,5 @@
 //! Frames of a sync line's rises, one rise at a time.
-ghost use Rattle.std.specs.Prelude.{◌≡◌, ◌≤◌, ◌^◌, ◌++◌, [], ◌∷◌, List, ℕ};
+ghost use Rattle.std.specs.Prelude.{◌≡◌, ◌≤◌, ◌^◌, ◌++◌, [], ◌∷◌, List, ℕ, IsTrue, false};
 ghost use Rattle.psi5_downlink.specs.Setup.{Settings};
 ghost use Rattle.psi5_downlink.specs.Rises.{Interval, Rise};
 ghost use Rattle.psi5_downlink.specs.Reading.{tooth_reading};
@@ -9,7 +9,7 @@ use crate::down::Form;
 use crate::frame_bits::FrameBits;
 use crate::setup::ToothSetup;
 use crate::step::ToothStep;
-use crate::verdict::{Verdict, judge};
+use crate::verdict::{Verdict, goes_on, judge};
 use link_math::periods_of;
 use std::marker::Model;
 
@@ -37,8 +37,26 @@ fn begun(periods: u8) -> State
     }
 }
 
+/// Takes an interval of `periods` sync periods, 0 to 6, in place, where it ends nothing and begins no frame. Answers
+/// whether it does; if not, nothing changes.
+#[inline(always)]
+fn keeps_on(form: Form, state: &mut State, periods: u8) -> bool
+    requires valid { IsState form state.old }
+    requires few { periods ≤ 6 }
+    ensures valid { IsState form state.new }
+    ensures leads { IsTrue result → (number : ℕ) (later : List Interval)
+        → reading_on form state.old (record { number = number; periods = periods } ∷ later) ≡ reading_on form state.new later }
+    ensures left { result ≡ false → state.new ≡ state.old }
+{
+    match state {
+        State::Outside => periods != START,
+        State::Within(bits) => goes_on(form, bits, periods),
+    }
+}
+
 /// Where an interval of `periods` sync periods, 0 to 6, leads that the rise with this number ends, and what it
 /// ends.
+#[inline(never)]
 fn after_interval(form: Form, state: State, number: u64, periods: u8) -> (State, ToothStep)
     requires valid { IsState form state }
     requires few { periods ≤ 6 }
@@ -113,6 +131,32 @@ impl ToothReader {
         let (state, step) = after_interval(self.setup.form(), self.state, number, periods);
         self.state = state;
         step
+    }
+
+    /// Takes the next rise as [`push`](Self::push) does, whatever its number is, where it is the first one or ends an
+    /// interval that ends nothing and begins no frame. Answers whether it is; if not, `push` is to take it.
+    #[inline(always)]
+    pub fn passes(&mut self, time: u64) -> bool
+        requires { time ≤ 10 ^ 15 }
+        // Once it is passed, the reader stands for it too.
+        ensures stands { IsTrue result → (setup : Settings) (seen : List Rise) (number : ℕ) → StandsFor setup self.old seen
+            → StandsFor setup self.new (seen ++ record { number = number; time = time } ∷ []) }
+        // No step comes of it.
+        ensures quiet { IsTrue result → (setup : Settings) (seen : List Rise) (number : ℕ) → StandsFor setup self.old seen
+            → tooth_reading setup (seen ++ record { number = number; time = time } ∷ []) ≡ tooth_reading setup seen }
+        // A rise that isn't passed changes nothing.
+        ensures left { result ≡ false → self.new ≡ self.old }
+    {
+        let Some(before) = self.last else {
+            self.last = Some(time);
+            return true;
+        };
+        let periods = periods_of(time.saturating_sub(before), self.setup.period());
+        if !keeps_on(self.setup.form(), &mut self.state, periods) {
+            return false;
+        }
+        self.last = Some(time);
+        true
     }
 
     /// Forgets all rises: the next one ends no interval.

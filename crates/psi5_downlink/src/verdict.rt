@@ -1,9 +1,10 @@
 //! What the bits of a frame come to, as far as they are read.
-ghost use Rattle.std.specs.Prelude.{◌≡◌, ◌<◌, ◌≤◌, ◌^◌, ◌+◌, ◌++◌, ◌-◌, length, replicate, false};
+ghost use Rattle.std.specs.Prelude.{◌≡◌, ◌<◌, ◌≤◌, ◌^◌, ◌+◌, ◌++◌, ◌-◌, length, replicate, false, IsTrue};
 ghost use Rattle.link_math.specs.Division.{number_of};
 ghost use Rattle.psi5_downlink.specs.Frames as frames;
 ghost use Rattle.psi5_downlink.specs.Reading as reading;
-ghost use Rattle.psi5_downlink.specs.Kept.{IsDue};
+ghost use Rattle.psi5_downlink.specs.Kept.{IsDue, IsOpen, MayGoOn};
+ghost use Rattle.psi5_downlink.specs.declared.verdict.Verdict.TheVariants as verdict;
 
 use crate::down::{Down, Form};
 use crate::frame_bits::FrameBits;
@@ -145,6 +146,42 @@ fn push_interval(bits: &mut FrameBits, periods: u8)
         bits.push(false);
     }
     bits.push(true);
+}
+
+/// Whether an interval of `periods` sync periods, 1 to 6, leaves a frame unfinished of which so many bits came: behind
+/// none, one of two periods does; else as many pulses may be missing as there are bits before the next inserted 1.
+#[inline(always)]
+fn leaves_unfinished(form: Form, count: usize, periods: u8) -> bool
+    requires some { 1 ≤ periods }
+    requires few { periods ≤ 6 }
+    requires room { count ≤ 38 }
+    ensures { IsTrue result → MayGoOn form count periods }
+{
+    let missing = usize::from(periods - 1);
+    if count + missing + 1 >= frame_length(form) {
+        return false;
+    }
+    if count == 0 {
+        return missing == 1;
+    }
+    missing <= (45 - count) % 4
+}
+
+/// Puts the bits of an interval of `periods` sync periods, 0 to 6, at the end of those of a frame that isn't whole,
+/// where it leaves the frame unfinished. Answers whether it does; if not, nothing changes.
+#[inline(always)]
+pub fn goes_on(form: Form, bits: &mut FrameBits, periods: u8) -> bool
+    requires open { IsOpen form bits.old }
+    requires few { periods ≤ 6 }
+    ensures open { IsOpen form bits.new }
+    ensures value { IsTrue result → verdict.Unfinished bits.new ≡ reading.verdict form bits.old periods }
+    ensures left { result ≡ false → bits.new ≡ bits.old }
+{
+    if periods == 0 || !leaves_unfinished(form, bits.len(), periods) {
+        return false;
+    }
+    push_interval(bits, periods);
+    true
 }
 
 /// What an interval of `periods` sync periods, 0 to 6, comes to behind these bits of a frame.

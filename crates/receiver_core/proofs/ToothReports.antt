@@ -99,15 +99,23 @@ pub tooth-fall : (s : Settings) (old : ToothChannel) (seen : List NumberedEdge) 
     → tooth_so_far s (seen ++ e ∷ []) ≡ tooth_so_far s seen ++ reports
 tooth-fall s old seen e reports before some falls none = tooth-same s seen (seen ++ e ∷ []) reports (rises-fallen seen e (sym before.opened ∙ some) falls) none
 
--- a rise adds the report of its step
+-- rises add the report of the last one's step
+pub read-rise : (s : Settings) (seen after : List Rise) (step : ToothStep) (reports : List Report) → tooth_reading s after ≡ tooth_reading s seen ++ steps_of step → reports ≡ down_report step
+    → flat_map down_report (tooth_reading s after) ≡ flat_map down_report (tooth_reading s seen) ++ reports
+read-rise s seen after step reports grows are =
+    ap (flat_map down_report) grows ∙ flat_map-append down_report (tooth_reading s seen) (steps_of step) ∙ ap (λ l. flat_map down_report (tooth_reading s seen) ++ l) (one-report step ∙ sym are)
+
+-- and so does an edge that is one
+pub tooth-read : (s : Settings) (old : ToothChannel) (seen : List NumberedEdge) (e : NumberedEdge) (reports : List Report) → StandsForRises s old seen → old.opened ≡ true → e.edge.level ≡ true
+    → flat_map down_report (tooth_reading s (rises_of seen ++ record { number = e.number; time = e.edge.time } ∷ [])) ≡ flat_map down_report (tooth_reading s (rises_of seen)) ++ reports
+    → tooth_so_far s (seen ++ e ∷ []) ≡ tooth_so_far s seen ++ reports
+unfolding tooth_so_far
+tooth-read s old seen e reports before some rises grows = ap (λ l. flat_map down_report (tooth_reading s l)) (rises-risen seen e (sym before.opened ∙ some) rises) ∙ grows
+
 pub tooth-rise : (s : Settings) (old : ToothChannel) (seen : List NumberedEdge) (e : NumberedEdge) (step : ToothStep) (reports : List Report) → StandsForRises s old seen → old.opened ≡ true → e.edge.level ≡ true
     → tooth_reading s (rises_of seen ++ record { number = e.number; time = e.edge.time } ∷ []) ≡ tooth_reading s (rises_of seen) ++ steps_of step → reports ≡ down_report step
     → tooth_so_far s (seen ++ e ∷ []) ≡ tooth_so_far s seen ++ reports
-unfolding tooth_so_far
-tooth-rise s old seen e step reports before some rises grows are =
-    ap (λ l. flat_map down_report (tooth_reading s l)) (rises-risen seen e (sym before.opened ∙ some) rises)
-    ∙ ap (flat_map down_report) grows ∙ flat_map-append down_report (tooth_reading s (rises_of seen)) (steps_of step)
-    ∙ ap (λ l. flat_map down_report (tooth_reading s (rises_of seen)) ++ l) (one-report step ∙ sym are)
+tooth-rise s old seen e step reports before some rises grows are = tooth-read s old seen e reports before some rises (read-rise s (rises_of seen) _ step reports grows are)
 
 rises-front : (seen more : List NumberedEdge) → IsFrontOf (rises_of seen) (rises_of (seen ++ more))
 rises-front [] more = record { rest = rises_of more; is = refl }

@@ -82,11 +82,13 @@ impl Link {
         ensures grows { (setup : ChannelSetup) (stretch : Option (List NumberedEdge)) → LinkStandsFor setup self.old stretch
             → resumed setup number stretch (Item.Edge edge ∷ []) ≡ resumed setup number stretch [] ++ reports.new.items }
     {
+        // Each link gets an edge of its own, so that none has to be kept in memory.
+        let Edge { line, time, level } = edge;
         match self {
-            Link::Sent(channel) => channel.push(number, edge, reports),
-            Link::Psi5(channel) => channel.push(number, edge, reports),
-            Link::Spc(channel) => channel.push(number, edge, reports),
-            Link::Tooth(channel) => channel.push(number, edge, reports),
+            Link::Sent(channel) => channel.push(number, Edge { line, time, level }, reports),
+            Link::Psi5(channel) => channel.push(number, Edge { line, time, level }, reports),
+            Link::Spc(channel) => channel.push(number, Edge { line, time, level }, reports),
+            Link::Tooth(channel) => channel.push(number, Edge { line, time, level }, reports),
             Link::Ended => {}
         }
     }
@@ -178,7 +180,22 @@ impl Receiver {
         reports
     }
 
-    /// The same, with the reports added to an empty list.
+    /// Takes the next edge of the channel, and adds the reports that come with it to an empty list. It is on one of
+    /// the channel's lines, at a time of at most 10^15 ns; edges, lost ones counted, are at most 2^60.
+    #[inline(always)]
+    pub fn push_edge(&mut self, edge: Edge, reports: &mut ArrayVec<Report, 8>)
+        requires empty { reports.old.items ≡ [] }
+        requires takeable { (setup : ChannelSetup) × (seen : List Item) × StandsFor setup self.old seen × IsTakeable (edges_counted seen) (Item.Edge edge) }
+        ensures stands { (setup : ChannelSetup) (seen : List Item) → StandsFor setup self.old seen → StandsFor setup self.new (seen ++ Item.Edge edge ∷ []) }
+        ensures grows { (setup : ChannelSetup) (seen : List Item) → StandsFor setup self.old seen
+            → so_far setup (seen ++ Item.Edge edge ∷ []) ≡ so_far setup seen ++ reports.new.items }
+    {
+        let number = self.number;
+        self.number = number + 1;
+        self.link.edge(number, edge, reports);
+    }
+
+    /// Takes the next item of the channel, and adds the reports that come with it to an empty list.
     #[inline(always)]
     pub fn push_into(&mut self, item: Item, reports: &mut ArrayVec<Report, 8>)
         requires empty { reports.old.items ≡ [] }
@@ -189,10 +206,7 @@ impl Receiver {
     {
         let number = self.number;
         match item {
-            Item::Edge(edge) => {
-                self.number = number + 1;
-                self.link.edge(number, edge, reports);
-            }
+            Item::Edge(edge) => self.push_edge(edge, reports),
             Item::Gap { first, count } => {
                 self.number = number + count;
                 self.link.gap(first, count, reports);

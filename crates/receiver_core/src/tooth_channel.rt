@@ -1,7 +1,10 @@
 //! A tooth-gap channel between two gaps.
-ghost use Rattle.std.specs.Prelude.{◌≡◌, ◌^◌, ◌≤◌, ◌++◌, [], ◌∷◌, List};
+ghost use Rattle.std.specs.Prelude.{◌≡◌, ◌^◌, ◌≤◌, ◌++◌, [], ◌∷◌, List, flat_map};
 ghost use Rattle.line_base.specs.Edges.{NumberedEdge};
 ghost use Rattle.psi5_downlink.specs.Setup.{Settings};
+ghost use Rattle.psi5_downlink.specs.Rises.{Rise};
+ghost use Rattle.psi5_downlink.specs.Reading.{tooth_reading};
+ghost use Rattle.psi5_downlink.specs.Readers.{StandsFor};
 ghost use Rattle.receiver_core.specs.ToothReports.{down_report, tooth_so_far};
 
 use crate::report::{Report, What};
@@ -36,6 +39,20 @@ fn push_step(step: ToothStep, reports: &mut ArrayVec<Report, 8>)
     }
 }
 
+/// Takes the next rise of the line, with its number in the channel and its time in ns, at most 10^15, and adds the
+/// report of what it ends to none.
+#[inline(never)]
+fn read(reader: &mut ToothReader, number: u64, time: u64, reports: &mut ArrayVec<Report, 8>)
+    requires in_range { time ≤ 10 ^ 15 }
+    requires empty { reports.old.items ≡ [] }
+    ensures stands { (s : Settings) (seen : List Rise) → StandsFor s reader.old seen → StandsFor s reader.new (seen ++ record { number = number; time = time } ∷ []) }
+    ensures grows { (s : Settings) (seen : List Rise) → StandsFor s reader.old seen
+        → flat_map down_report (tooth_reading s (seen ++ record { number = number; time = time } ∷ [])) ≡ flat_map down_report (tooth_reading s seen) ++ reports.new.items }
+{
+    let step = reader.push(number, time);
+    push_step(step, reports);
+}
+
 impl ToothChannel {
     ghost use Rattle.receiver_core.specs.ToothReports.{StandsForRises};
 
@@ -51,7 +68,7 @@ impl ToothChannel {
 
     /// Takes the next edge of the line, with its number in the channel, and adds the report of what it ends to
     /// none. Its time is at most 10^15 ns. The first edge is an opening, and no rise.
-    #[inline]
+    #[inline(always)]
     pub fn push(&mut self, number: u64, edge: Edge, reports: &mut ArrayVec<Report, 8>)
         requires in_range { edge.time ≤ 10 ^ 15 }
         requires empty { reports.old.items ≡ [] }
@@ -66,8 +83,10 @@ impl ToothChannel {
         if !edge.level {
             return;
         }
-        let step = self.reader.push(number, edge.time);
-        push_step(step, reports);
+        if self.reader.passes(edge.time) {
+            return;
+        }
+        read(&mut self.reader, number, edge.time, reports);
     }
 
     /// Forgets all edges: the next one is an opening.

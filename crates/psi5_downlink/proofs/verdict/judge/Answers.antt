@@ -18,9 +18,12 @@ returns-then-as_slice-frame_length-clause-value c =
     (λ all. search (rules, c.if-as_slice-frame_length.true, c.as_slice-2.ensures.value, c.frame_length.ensures.value, all))
 
 pub returns-then-as_slice-frame_length-clause-due : goal.returns-then-as_slice-frame_length-clause-due
-returns-then-as_slice-frame_length-clause-due c =
-    due_more c.args.form c.args.periods c.args.bits c.push_interval.new.bits c.push_interval.ensures c.requires.due (search (rules, c.in_default.ensures, c.as_slice.ensures.value))
-    (λ all. search (rules, c.if-as_slice-frame_length.true, c.as_slice-2.ensures.value, c.frame_length.ensures.value, all))
+returns-then-as_slice-frame_length-clause-due c = record {
+  due =
+      due_more c.args.form c.args.periods c.args.bits c.push_interval.new.bits c.push_interval.ensures c.requires.due (search (rules, c.in_default.ensures, c.as_slice.ensures.value))
+      (λ all. search (rules, c.if-as_slice-frame_length.true, c.as_slice-2.ensures.value, c.frame_length.ensures.value, all));
+  allowed = search (rules, c.in_default.ensures, c.as_slice.ensures.value);
+}
 
 pub checked_groups-requires : goal.checked_groups-requires
 checked_groups-requires c =

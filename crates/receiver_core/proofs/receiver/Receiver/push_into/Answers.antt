@@ -9,11 +9,10 @@ use Rattle.receiver_core.proofs.Links.{receiver-more, receiver-grows, no-more, f
 use Rattle.line_base.specs.declared.edge.Item.TheVariants as item
 use Rattle.receiver_core.proofs.receiver.Receiver.push_into.Goals as goal
 
-pub edge-requires-clause-stands : goal.edge-requires-clause-stands
-edge-requires-clause-stands c =
+pub push_edge-requires-clause-takeable : goal.push_edge-requires-clause-takeable
+push_edge-requires-clause-takeable c =
     let given = c.requires.takeable in
-    let taken : IsTakeable (edges_counted given.1) (item.Edge c.in-Edge.edge) = subst (λ (t : Item). IsTakeable (edges_counted given.1) t) c.in-Edge.is given.3 in
-    (given.0, open_stretch given.1, given.2.reads, omega (arith, open-few given.1, taken.1))
+    (given.0, given.1, given.2, subst (λ (t : Item). IsTakeable (edges_counted given.1) t) c.in-Edge.is given.3)
 
 pub end-requires-clause-stands : goal.end-requires-clause-stands
 end-requires-clause-stands c =
@@ -21,13 +20,10 @@ end-requires-clause-stands c =
     (given.0, open_stretch given.1, given.2.reads, omega (arith, open-few given.1, given.2.few, given.2.numbered))
 
 pub returns-in-Edge-clause-stands : goal.returns-in-Edge-clause-stands
-returns-in-Edge-clause-stands c = λ setup seen before.
-    rw c.in-Edge.is (receiver-more setup c.args.self.now (c.args.self.now.number + 1) c.edge.new.self seen (item.Edge c.in-Edge.edge) before
-    refl (few-edge c.requires.takeable.0 c.requires.takeable.1 c.args.self.now c.args.item c.in-Edge.edge c.requires.takeable.2 c.in-Edge.is c.requires.takeable.3) (c.edge.ensures.stands setup (open_stretch seen) before.reads))
+returns-in-Edge-clause-stands c = λ setup seen before. rw c.in-Edge.is (c.push_edge.ensures.stands setup seen before)
 
 pub returns-in-Edge-clause-grows : goal.returns-in-Edge-clause-grows
-returns-in-Edge-clause-grows c = λ setup seen before.
-    rw c.in-Edge.is (receiver-grows setup c.args.self.now seen (item.Edge c.in-Edge.edge) c.edge.new.reports.items before (c.edge.ensures.grows setup (open_stretch seen) before.reads))
+returns-in-Edge-clause-grows c = λ setup seen before. rw c.in-Edge.is (c.push_edge.ensures.grows setup seen before)
 
 pub returns-in-Gap-clause-stands : goal.returns-in-Gap-clause-stands
 returns-in-Gap-clause-stands c = λ setup seen before.
