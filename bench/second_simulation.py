@@ -3,18 +3,22 @@
 
     bench/second_simulation.py [--only simulate|loop] [RUNS [SEED]]      100 runs of each command unless said
     bench/second_simulation.py --self-test
+    bench/second_simulation.py --realistic
 
 The simulation, in bench/readings/simulated.py, is plain and shares no code with the program; what its rows say is read
 by the second reading. The messages of `simulate` are those of a script, now and then with one that comes out of order
 and with lines that are skipped. Ends with status 1 at the first run that differs, and says where.
 
 With --self-test the random words are compared with the published ones, and one loop with what was worked out by hand.
+With --realistic 1,000 frames of SENT with enhanced messages and 1,000 bursts of PSI5 are merged into wide rows that end
+by CR and LF, and the program gets them in pieces of 1, 7 and 4,096 bytes.
 """
 import argparse
 import pathlib
 import random
 import subprocess
 import sys
+import threading
 
 from readings import psi5, sent, spc, tooth
 from readings.simulated import Wobble, played, scripted, stretches, sums, text_of
@@ -93,16 +97,57 @@ def self_test():
     return (high << 32 | low) == 18195738587432868099 and line == right
 
 
+def merged(columns):
+    """Wide rows of edges of lines 0, 1 and so on, each a list of times and levels in order, that end by CR and LF."""
+    levels, rows = [0] * len(columns), {}
+    for line, edges in enumerate(columns):
+        for time, level in edges:
+            rows.setdefault(time, {})[line] = level
+    lines = ["Time [s]" + "".join(f",line {line}" for line in range(len(columns)))]
+    for time in sorted(rows):
+        levels = [rows[time].get(line, level) for line, level in enumerate(levels)]
+        lines.append(f"{time // 10**9}.{time % 10**9:09d}," + ",".join(map(str, levels)))
+    return "".join(f"{line}\r\n" for line in lines)
+
+
+def in_pieces(words, text, size):
+    """What the program writes, and its status, where it gets the text in pieces of so many bytes."""
+    run = subprocess.Popen([PROGRAM, *words], stdin=subprocess.PIPE, stdout=subprocess.PIPE, bufsize=0)
+    told = []
+    reader = threading.Thread(target=lambda: told.append(run.stdout.read()))
+    reader.start()
+    for start in range(0, len(text), size):
+        run.stdin.write(text[start : start + size])
+    run.stdin.close()
+    reader.join()
+    return told[0].decode(), run.wait()
+
+
+def realistic():
+    """Whether two sensors' edges are read alike in pieces of each size, with the right totals."""
+    setups = [sent.Setup(0, serial="enhanced"), psi5.Setup(1)]
+    edges = [played(setup, seed, scripted(setup, seed + 1, 1000))[0] for seed, setup in enumerate(setups, 20)]
+    text = merged([[(time, level) for time, _, level in rows] for rows in edges]).encode()
+    told = [in_pieces(["decode", "sent:line=0,serial=enhanced", "psi5:line=1"], text, size) for size in (1, 7, 4096)]
+    totals = "00 total good 1000 bad 0 messages 55 gaps 0 lost 0\n01 total good 1000 bad 0 messages 0 gaps 0 lost 0\n"
+    return told[0] == told[1] == told[2] and told[0][0].endswith(totals) and told[0][1] == 0
+
+
 def main():
     options = argparse.ArgumentParser(description=__doc__, formatter_class=argparse.RawDescriptionHelpFormatter)
     options.add_argument("runs", nargs="?", type=int, default=100)
     options.add_argument("seed", nargs="?", type=int, default=1)
     options.add_argument("--only", choices=["simulate", "loop"])
     options.add_argument("--self-test", action="store_true")
+    options.add_argument("--realistic", action="store_true")
     given = options.parse_args()
     if given.self_test:
         good = self_test()
         print("the random words and the loop are right" if good else "the second simulation is wrong")
+        sys.exit(not good)
+    if given.realistic:
+        good = realistic()
+        print("two sensors are read alike in all pieces" if good else "two sensors are read otherwise")
         sys.exit(not good)
     rng = random.Random(given.seed)
     makers = {"simulate": simulated, "loop": looped}

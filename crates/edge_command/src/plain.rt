@@ -3,7 +3,7 @@ ghost use Rattle.std.specs.Prelude.{All, ◌≢◌, ◌∷◌, true, ◌≡◌, 
 ghost use Rattle.line_base.specs.Reasons.{status_of};
 ghost use Rattle.line_base.specs.declared.reason.Reason.TheVariants as reason;
 ghost use Rattle.receiver_core.specs.Setups.{setup_fault_of};
-ghost use Rattle.link_words.specs.Commands.{words_read, refused, setups_of_command};
+ghost use Rattle.link_words.specs.Commands.{CountsFew, words_read, refused, setups_of_command};
 ghost use Rattle.edge_command.specs.Ended.{Ended};
 ghost use Rattle.edge_command.specs.Ends.{CommandEnded, CommandLooped, CommandSends, CommandTold, TakesNothing};
 ghost use Rattle.edge_command.specs.Followed.{AllFollow, setups_of};
@@ -99,6 +99,7 @@ fn run_command<S: Source, K: Sink>(
 ) -> Reason
     requires few { length (setups_of_command command.now) ≤ 16 }
     requires faultless { All (λ setup. setup_fault_of setup ≡ None) (setups_of_command command.now) }
+    requires count { CountsFew command.now }
     ensures words { (place : ℕ) (fault : WordFault) → result ≢ reason.Words place fault }
     ensures memory { result ≡ reason.OutOfMemory → (source.new ≡ source.old) × (out.new ≡ out.old) }
     ensures ended { IfSome (S.left source.old) (λ bytes. CommandEnded command.now result bytes (S.left source.new) (K.got out.old) (K.got out.new)) }

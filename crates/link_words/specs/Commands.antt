@@ -1,5 +1,5 @@
 -- Which words of the command line are accepted; this project's own.
-use Rattle.std.specs.Prelude.{ℕ, ◌+◌, nat_le, nat_eq, ok_or, Bool, true, false, Result, Ok, Err, List, [], ◌∷◌, length, take, if◌then◌else◌, codes}
+use Rattle.std.specs.Prelude.{ℕ, ◌+◌, ◌≤◌, nat_le, nat_eq, ok_or, Bool, true, false, Result, Ok, Err, List, [], ◌∷◌, length, take, if◌then◌else◌, codes}
 use Rattle.std.specs.Str.{bytes_eq}
 use Rattle.line_base.specs.declared.faults.WordFault.{WordFault}
 use Rattle.line_base.specs.declared.faults.WordFault.TheVariants as fault
@@ -104,6 +104,13 @@ setups_of_command (Decode setups) = setups
 setups_of_command (Check setups) = setups
 setups_of_command (Simulate seed setup) = setup ∷ []
 setups_of_command (Loop seed count setup) = setup ∷ []
+
+-- a loop counts at most 100,000 messages
+abbrev pub CountsFew : Command → Type 0
+CountsFew (Decode setups) = Unit {0}
+CountsFew (Check setups) = Unit {0}
+CountsFew (Simulate seed setup) = Unit {0}
+CountsFew (Loop seed count setup) = count ≤ 100000
 
 -- the command writes a line of each report
 abbrev pub tells_reports : Command → Bool

@@ -1,7 +1,7 @@
 //! The commands, and the words that they take.
 ghost use Rattle.std.specs.Prelude.{◌≡◌, ◌≤◌, ◌<◌, None, IfOk, All, length, map, string_bytes};
 ghost use Rattle.receiver_core.specs.Setups.{setup_fault_of};
-ghost use Rattle.link_words.specs.Commands.{command_fault, count_at, spec_at, last_spec_at, loop_behind, loop_read, seed_at, setups_read, simulation_read, words_read, setups_of_command, tells_reports};
+ghost use Rattle.link_words.specs.Commands.{CountsFew, command_fault, count_at, spec_at, last_spec_at, loop_behind, loop_read, seed_at, setups_read, simulation_read, words_read, setups_of_command, tells_reports};
 
 use crate::seed::seed_of;
 use crate::setups::{MAX_CHANNELS, Setups};
@@ -84,6 +84,7 @@ pub fn read_words(words: &[String]) -> Result<Command, WordsFault>
     ensures faultless { IfOk result (λ command. All (λ setup. setup_fault_of setup ≡ None) (setups_of_command command)) }
     ensures some { IfOk result (λ command. 1 ≤ length (setups_of_command command)) }
     ensures few { IfOk result (λ command. length (setups_of_command command) ≤ 16) }
+    ensures count { IfOk result (λ command. CountsFew command) }
 {
     let Some((command, words)) = words.split_first() else {
         return Err(WordsFault {
@@ -173,6 +174,7 @@ fn read_simulation(words: &[String]) -> Result<Command, WordsFault>
     ensures value { result ≡ simulation_read (map string_bytes words.now) }
     ensures faultless { IfOk result (λ command. All (λ setup. setup_fault_of setup ≡ None) (setups_of_command command)) }
     ensures one { IfOk result (λ command. length (setups_of_command command) ≡ 1) }
+    ensures count { IfOk result (λ command. CountsFew command) }
 {
     let Some((seed, words)) = words.split_first() else {
         return Err(WordsFault {
@@ -187,7 +189,8 @@ fn read_simulation(words: &[String]) -> Result<Command, WordsFault>
 
 /// The count that a word writes, or that the word is refused.
 fn read_count(place: u64, text: &[u8]) -> Result<u64, WordsFault>
-    ensures { result ≡ count_at place text.now }
+    ensures value { result ≡ count_at place text.now }
+    ensures few { IfOk result (λ count. count ≤ 100000) }
 {
     match number_in(0, MAX_COUNT, text) {
         Some(count) => Ok(u64::from(count)),
@@ -204,6 +207,7 @@ fn read_loop_behind(seed: u64, words: &[String]) -> Result<Command, WordsFault>
     ensures value { result ≡ loop_behind seed (map string_bytes words.now) }
     ensures faultless { IfOk result (λ command. All (λ setup. setup_fault_of setup ≡ None) (setups_of_command command)) }
     ensures one { IfOk result (λ command. length (setups_of_command command) ≡ 1) }
+    ensures count { IfOk result (λ command. CountsFew command) }
 {
     let Some((count, words)) = words.split_first() else {
         return Err(WordsFault {
@@ -222,6 +226,7 @@ fn read_loop(words: &[String]) -> Result<Command, WordsFault>
     ensures value { result ≡ loop_read (map string_bytes words.now) }
     ensures faultless { IfOk result (λ command. All (λ setup. setup_fault_of setup ≡ None) (setups_of_command command)) }
     ensures one { IfOk result (λ command. length (setups_of_command command) ≡ 1) }
+    ensures count { IfOk result (λ command. CountsFew command) }
 {
     let Some((seed, words)) = words.split_first() else {
         return Err(WordsFault {

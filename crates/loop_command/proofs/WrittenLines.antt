@@ -1,15 +1,19 @@
 -- The line that is written is the line of the loop's edges.
-use Rattle.std.proofs.Common.{◌≡◌, ℕ, List, length, map, refl, ap, sym, subst, ◌∙◌, Option}
+use Rattle.std.proofs.Common.{◌≡◌, ℕ, List, length, map, refl, ap, sym, subst, ◌∙◌, Option, None}
 use Rattle.line_base.specs.Thinned.{thinned}
 use Rattle.line_base.specs.declared.edge.Edge.{Edge}
 use Rattle.line_base.specs.declared.edge.Item.TheVariants as item
 use Rattle.line_base.specs.declared.reason.Reason.{Reason}
+use Rattle.receiver_core.specs.declared.message.Message.{Message}
 use Rattle.receiver_core.specs.declared.setup.ChannelSetup.{ChannelSetup}
 use Rattle.receiver_core.specs.declared.tally.Tally.{Tally}
 use Rattle.receiver_core.specs.Channels.{final}
+use Rattle.sensor_sim.specs.Played.{played, refusal}
+use Rattle.heard_base.specs.AllGood.{AllGood}
+use Rattle.heard_base.specs.Scripted.{IsScripted}
 use Rattle.loop_command.specs.Ended.{LoopEnded, Wrote}
 use Rattle.loop_command.specs.Listened.{CountsAll}
-use Rattle.loop_command.specs.Loops.{last_time, line_of_edges, loop_line}
+use Rattle.loop_command.specs.Loops.{last_time, line_of_edges, loop_line, script_of}
 use Rattle.loop_command.specs.LostRuns.{lost_runs}
 use Rattle.loop_command.specs.Running.{AreOfLoop}
 
@@ -24,10 +28,14 @@ pub line-of : (count : ℕ) (setup : ChannelSetup) (edges : List Edge) (all gaps
 line-of count setup edges all gaps number last every thin long late = line-same count number last (length edges) (last_time edges) all gaps _ _ every.good every.bad long late thin.good thin.bad
 
 -- so a loop that has written it, or a front of it, has ended
-pub ended-with : (seed count : ℕ) (setup : ChannelSetup) (why : Reason) (got got' : Option (List ℕ)) (edges : List Edge) (line : List ℕ) → AreOfLoop seed count setup edges → line ≡ line_of_edges setup count edges → Wrote why got got' line
+pub ended-with : (seed count : ℕ) (setup : ChannelSetup) (why : Reason) (got got' : Option (List ℕ)) (edges : List Edge) (line : List ℕ) → AreOfLoop seed count setup edges
+    → ((messages : List Message) → IsScripted (script_of seed setup) count messages → refusal setup seed messages ≡ None)
+    → ((messages : List Message) → IsScripted (script_of seed setup) count messages → AllGood (final setup (map item.Edge (played setup seed messages))) count) → line ≡ line_of_edges setup count edges → Wrote why got got' line
     → LoopEnded seed count setup why got got'
-ended-with seed count setup why got got' edges line are is wrote = record {
+ended-with seed count setup why got got' edges line are sent heard is wrote = record {
   messages = are.messages;
   scripted = are.scripted;
+  sent = sent are.messages are.scripted;
+  heard = heard are.messages are.scripted;
   wrote = subst (Wrote why got got') (is ∙ ap (line_of_edges setup count) (sym are.are)) wrote;
 }

@@ -1,4 +1,3 @@
-pub mod Scripted
 pub mod LostRuns
 pub mod Loops
 pub mod Listened

@@ -85,12 +85,12 @@ fn expect(
     rt: &impl Abort,
     alloc: Global,
     seed: u64,
-    count: u64,
+    count: u16,
     setup: ChannelSetup,
     line: &str,
 ) -> Result<(), AllocError> {
     let mut sink = MemorySink::new(alloc, 256, Vec::new(alloc))?;
-    let reason = run_loop(seed, count, &sound(rt, setup), &mut sink);
+    let reason = run_loop(seed, u64::from(count), &sound(rt, setup), &mut sink);
     assert_eq!(rt; reason, Reason::Clean);
     assert_eq!(rt; sink.bytes(), line.as_bytes());
     Ok(())

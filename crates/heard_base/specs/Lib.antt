@@ -1,0 +1,3 @@
+pub mod AllGood
+pub mod Heard
+pub mod Scripted

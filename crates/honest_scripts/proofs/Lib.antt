@@ -1,0 +1,17 @@
+pub mod Outcomes
+pub mod KeptSetups
+pub mod FittingMessages
+pub mod ReadMessages
+pub mod LineMessages
+pub mod Bounds
+pub mod SpcBounds
+pub mod SpcMessages
+pub mod ScriptValues
+pub mod FollowedLinks
+pub mod SpcScripts
+pub mod ToothScripts
+pub mod SentScripts
+pub mod BurstValues
+pub mod BurstBounds
+pub mod BurstScripts
+pub mod FollowedScripts

@@ -1,0 +1,2 @@
+pub mod SentScripts
+pub mod HeardScripts
