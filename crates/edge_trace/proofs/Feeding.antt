@@ -4,16 +4,17 @@ use Rattle.std.proofs.lemmas.Bool.{ne_eqb}
 use Rattle.std.proofs.lemmas.List.{append-nil, length_push}
 use Rattle.line_base.specs.declared.faults.LineFault.{LineFault}
 use Rattle.line_base.specs.declared.faults.LineFault.TheVariants.{LineTooLong, InputTooLong}
-use Rattle.edge_trace.specs.Lines.{ended_lines, open_line, without_cr}
+use Rattle.text_lines.specs.Lines.{ended_lines, open_line, without_cr}
 use Rattle.edge_trace.specs.EdgeLists.{Read, content_read, told_with}
-use Rattle.edge_trace.specs.Limits.{input_limit, told_of, fault_in, fault_of, answers_of, whole_answers_of, line_number_of}
+use Rattle.edge_trace.specs.Limits.{told_of, fault_in, fault_of, answers_of, whole_answers_of, line_number_of}
+use Rattle.text_lines.specs.Inputs.{input_limit}
 use Rattle.edge_trace.specs.Readings.{IsAt}
 use Rattle.edge_trace.specs.Readers.{answers_in, number_in, GoesOn, GoesOnOrStopped, StandsFor, HasEnded, answers_of_read, IsBehind, EndsLine, Takes}
 use Rattle.edge_trace.specs.declared.state.State.{State}
 use Rattle.edge_trace.specs.declared.row.Row.{Row}
 use Rattle.edge_trace.specs.declared.reader.EdgeReader.{EdgeReader}
 use Rattle.edge_trace.proofs.Telling.{fault_behind}
-use Rattle.edge_trace.proofs.Cutting.{ended_push, open_push}
+use Rattle.text_lines.proofs.Cutting.{ended_push, open_push}
 use Rattle.edge_trace.proofs.Streams.{no_fault_open, past_limit, too_long, goes_on, open_goes_on, ends_line, open_behind, ends_between, ends_within}
 use Rattle.edge_trace.proofs.StandingFor.{stands_going, stands_stopped, between_lines, within_line, limit_is, number_cases, answers_more, answers_same, whole_more, whole_same, any_number}
 

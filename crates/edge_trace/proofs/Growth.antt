@@ -10,9 +10,10 @@ use Rattle.line_base.specs.declared.faults.LineFault.{LineFault}
 use Rattle.line_base.specs.declared.faults.LineFault.TheVariants.{LineTooLong, InputTooLong}
 use Rattle.line_base.specs.Streams.{IsFrontOf}
 use Rattle.line_base.proofs.Fronts.{IsFrontOf-trans}
-use Rattle.edge_trace.specs.Lines.{ended_lines, open_line, without_cr}
+use Rattle.text_lines.specs.Lines.{ended_lines, open_line, without_cr}
 use Rattle.edge_trace.specs.EdgeLists.{Standing, AtStart, Read, content_read, Told, told_row, told_with, told_from, standing_after}
-use Rattle.edge_trace.specs.Limits.{input_limit, long_line, told_within, told_past, told_of, whole_told_of, fault_in, rows_of, edges_of, fault_of, whole_rows_of, whole_edges_of, whole_fault_of, answers_of, whole_answers_of, lines_begun, line_number_of, number_at}
+use Rattle.edge_trace.specs.Limits.{told_within, told_past, told_of, whole_told_of, fault_in, rows_of, edges_of, fault_of, whole_rows_of, whole_edges_of, whole_fault_of, answers_of, whole_answers_of, line_number_of}
+use Rattle.text_lines.specs.Inputs.{input_limit, long_line, lines_begun, number_at}
 use Rattle.edge_trace.specs.MoreBytes.{Stays, TellsNoMore}
 use Rattle.edge_trace.specs.Readers.{IsOpen, HasEnded}
 use Rattle.edge_trace.specs.declared.reader.EdgeReader.{EdgeReader}

@@ -13,7 +13,7 @@ use Rattle.edge_trace.specs.declared.form.Form as code
 use Rattle.edge_trace.specs.declared.form.Form.TheVariants as variant
 use denote.Ref.{Bor}
 use Rattle.std.specs.Option.{option_copied}
-use Rattle.edge_trace.proofs.LineEnds.{fields_last, fields_more, has_first_field}
+use Rattle.edge_trace.proofs.FieldCuts.{fields_last, fields_more, has_first_field}
 
 module _ {A B C : Type 0} (view : A → B) where
   -- a fault that is seen is the fault of what goes on from there

@@ -4,11 +4,12 @@ use Rattle.std.proofs.lemmas.Bool.{lt-ltb, le-ltb, eq-eqb, ne_eqb, cases_lt, cas
 use Rattle.std.proofs.lemmas.List.{append_assoc, length_push, take_at, take-append-le}
 use Rattle.line_base.specs.declared.faults.LineFault.{LineFault}
 use Rattle.line_base.specs.declared.faults.LineFault.TheVariants.{LineTooLong, InputTooLong}
-use Rattle.edge_trace.specs.Lines.{ended_lines, open_line}
+use Rattle.text_lines.specs.Lines.{ended_lines, open_line}
 use Rattle.edge_trace.specs.EdgeLists.{Standing, AtStart, told_with, told_from, standing_after}
-use Rattle.edge_trace.specs.Limits.{input_limit, long_line, last_line, told_within, told_past, told_of, whole_told_of, fault_in, fault_of}
+use Rattle.edge_trace.specs.Limits.{told_within, told_past, told_of, whole_told_of, fault_in, fault_of}
+use Rattle.text_lines.specs.Inputs.{input_limit, long_line, last_line}
 use Rattle.edge_trace.proofs.Telling.{told_on, told_append}
-use Rattle.edge_trace.proofs.Cutting.{line_after, ended_by, ended_push, open_push}
+use Rattle.text_lines.proofs.Cutting.{line_after, ended_by, ended_push, open_push}
 use Rattle.edge_trace.proofs.Streams.{told_in_limit, long_read, is_long, last_one, no_fault_open}
 
 -- a fault isn't none

@@ -1,6 +1,5 @@
-pub mod Cutting
 pub mod Seconds
-pub mod LineEnds
+pub mod FieldCuts
 pub mod KeptEdges
 pub mod ToldLevels
 pub mod LeftEdges

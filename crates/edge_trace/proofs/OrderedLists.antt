@@ -10,16 +10,17 @@ use Rattle.line_base.specs.declared.edge.Edge.{Edge}
 use Rattle.line_base.specs.declared.faults.LineFault.{LineFault}
 use Rattle.line_base.specs.declared.faults.LineFault.TheVariants.{Field, Level, TimeBack, Version, LineTooLong, InputTooLong}
 use Rattle.line_base.specs.Orderly.{levels_with}
-use Rattle.edge_trace.specs.Lines.{without_cr, ended_lines, open_line}
+use Rattle.text_lines.specs.Lines.{without_cr, ended_lines, open_line}
 use Rattle.line_base.specs.Texts as texts
 use Rattle.line_base.specs.Texts.{after_front}
 use Rattle.edge_trace.specs.Fields.{fields, level_in, levels_in}
 use Rattle.line_base.specs.Steps.{◌>>=◌, check}
 use Rattle.edge_trace.specs.Rows.{Form, Narrow, Units, Wide, Stamp, time_field, time_of, units_of, Row, said_from, wide_row, row_in}
 use Rattle.edge_trace.specs.EdgeLists.{level_before, edges_among, is_new, option_else, without_row, Standing, AtStart, Formless, InRows, Read, is_skipped, is_name_byte, unit_in, columns_in, narrow_form, header_read, forming_read, version_read, row_read, content_read, line_read, Told, told_row, told_with, told_from}
-use Rattle.edge_trace.specs.Limits.{input_limit, long_line, last_line, told_within, told_past, told_of, whole_told_of, fault_in, rows_of, edges_of, whole_rows_of, whole_edges_of}
+use Rattle.edge_trace.specs.Limits.{told_within, told_past, told_of, whole_told_of, fault_in, rows_of, edges_of, whole_rows_of, whole_edges_of}
+use Rattle.text_lines.specs.Inputs.{input_limit, long_line, last_line}
 use Rattle.edge_trace.specs.Ordered.{AreOrdered}
-use Rattle.edge_trace.proofs.Cutting.{lines_joined}
+use Rattle.text_lines.proofs.Cutting.{lines_joined}
 use Rattle.edge_trace.proofs.Ordering.{bound, checked, found, same_levels, one_said, all_said, levels_behind, behind_same, eqb_sym, filter_cons, RowSays, NarrowSays, WideSays, time_in_range, narrow_says}
 
 -- the levels of a wide row are as many as its fields

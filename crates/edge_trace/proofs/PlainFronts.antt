@@ -4,7 +4,7 @@ use Rattle.std.proofs.Math.Seq.{take-append-add}
 use Rattle.std.proofs.lemmas.Bool.{ne_eqb, cases_eq, cases_Bool}
 use Rattle.std.proofs.lemmas.List.{append_assoc, length-append, get_or-append-add}
 use Rattle.std.specs.List.{list_all}
-use Rattle.edge_trace.specs.Lines.{without_cr}
+use Rattle.text_lines.specs.Lines.{without_cr}
 use Rattle.line_base.specs.Texts.{cut_at, is_digit, is_number, number_after, number_in}
 use Rattle.edge_trace.specs.Fields.{level_in}
 use Rattle.edge_trace.specs.EdgeLists.{is_skipped}

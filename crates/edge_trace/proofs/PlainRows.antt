@@ -59,9 +59,9 @@ wrapped_digit byte value small e digit = record {
   value_is = omega arith;
 }
 
-pub digit_fits : (mark : ℕ) (text : List ℕ) (i number : ℕ) → NumberSoFar mark text i number → i < 17 → number < 10000000000000000
+pub digit_fits : (mark : ℕ) (text : List ℕ) (i number : ℕ) → NumberSoFar mark text i number → i < 16 → number < 1000000000000000
 digit_fits mark text i number so_far few =
-    let most : 10 ^ i ≤ 10 ^ 16 = pow-le-pow_right {n = 10} (omega arith) {i = i} {j = 16} (omega arith) in
+    let most : 10 ^ i ≤ 10 ^ 15 = pow-le-pow_right {n = 10} (omega arith) {i = i} {j = 15} (omega arith) in
     let small = so_far.small in
     omega arith
 

@@ -2,14 +2,15 @@
 use Rattle.std.proofs.Common.{◌≡◌, ℕ, suc, ◌+◌, ◌-◌, ◌<◌, ◌≤◌, cond, Bool, Option, Some, None, List, [], ◌∷◌, ◌++◌, length, take, map, get_or, refl, sym, ◌∙◌, ap, subst, arith, length-append, ◌⊎◌, inl, inr}
 use Rattle.std.proofs.lemmas.Bool.{ne_eqb, cases_lt}
 use Rattle.std.proofs.lemmas.List.{append_assoc, append-nil, length_push, get_or-take, length-take-le}
-use Rattle.edge_trace.specs.Lines.{ended_lines, open_line}
+use Rattle.text_lines.specs.Lines.{ended_lines, open_line}
 use Rattle.edge_trace.specs.EdgeLists.{Standing}
-use Rattle.edge_trace.specs.Limits.{input_limit, last_line, told_of, fault_of, answers_of}
+use Rattle.edge_trace.specs.Limits.{told_of, fault_of, answers_of}
+use Rattle.text_lines.specs.Inputs.{input_limit, last_line}
 use Rattle.edge_trace.specs.Readings.{IsAt}
 use Rattle.edge_trace.specs.Readers.{IsOpen, GoesOn, HasStopped, GoesOnOrStopped, StandsFor, HasEnded, TakesRun, IsLongest}
 use Rattle.edge_trace.specs.declared.state.State.{State}
 use Rattle.edge_trace.specs.declared.reader.EdgeReader.{EdgeReader}
-use Rattle.edge_trace.proofs.Cutting.{ended_push, open_push}
+use Rattle.text_lines.proofs.Cutting.{ended_push, open_push}
 use Rattle.edge_trace.proofs.Streams.{goes_on, open_goes_on}
 use Rattle.edge_trace.proofs.StandingFor.{stands_going, stands_stopped}
 

@@ -3,9 +3,10 @@ use Rattle.std.proofs.Common.{◌≡◌, ℕ, zero, suc, ◌+◌, ◌^◌, ◌<�
 use Rattle.std.proofs.lemmas.List.{append-nil, map-append}
 use Rattle.line_base.specs.declared.edge.Edge.{Edge}
 use Rattle.line_base.specs.declared.faults.LineFault.{LineFault}
-use Rattle.edge_trace.specs.Lines.{ended_lines, open_line}
+use Rattle.text_lines.specs.Lines.{ended_lines, open_line}
 use Rattle.edge_trace.specs.EdgeLists.{AtStart, Read, Told, told_row, told_with, standing_after}
-use Rattle.edge_trace.specs.Limits.{input_limit, last_line, told_of, whole_told_of, fault_in, fault_of, answers_of, whole_answers_of, lines_begun, line_number_of, number_at}
+use Rattle.edge_trace.specs.Limits.{told_of, whole_told_of, fault_in, fault_of, answers_of, whole_answers_of, line_number_of}
+use Rattle.text_lines.specs.Inputs.{input_limit, last_line, lines_begun, number_at}
 use Rattle.edge_trace.specs.Readings.{HasLevels}
 use Rattle.edge_trace.specs.Readers.{number_in, IsOpen, GoesOn, HasStopped, GoesOnOrStopped, StandsFor, HasEnded, answers_of_read, Takes}
 use Rattle.edge_trace.specs.declared.state.State.{State}

@@ -3,11 +3,12 @@ use Rattle.std.proofs.Common.{◌≡◌, ℕ, ◌+◌, ◌<◌, ◌≤◌, cond,
 use Rattle.std.proofs.lemmas.Bool.{lt-ltb, le-ltb, ne_eqb}
 use Rattle.std.proofs.lemmas.List.{append-nil, length_push, take_at}
 use Rattle.line_base.specs.declared.faults.LineFault.TheVariants.{LineTooLong, InputTooLong}
-use Rattle.edge_trace.specs.Lines.{ended_lines, open_line, without_cr}
+use Rattle.text_lines.specs.Lines.{ended_lines, open_line, without_cr}
 use Rattle.edge_trace.specs.EdgeLists.{Standing, AtStart, Read, line_read, content_read, told_with, told_from, after_with, standing_after}
-use Rattle.edge_trace.specs.Limits.{input_limit, long_line, last_line, told_within, told_past, told_of, whole_told_of, fault_in, fault_of, lines_begun, line_number_of, number_at}
+use Rattle.edge_trace.specs.Limits.{told_within, told_past, told_of, whole_told_of, fault_in, fault_of, line_number_of}
+use Rattle.text_lines.specs.Inputs.{input_limit, long_line, last_line, lines_begun, number_at}
 use Rattle.edge_trace.specs.Readers.{IsOpen}
-use Rattle.edge_trace.proofs.Cutting.{line_after, ended_by, ended_push, open_push}
+use Rattle.text_lines.proofs.Cutting.{line_after, ended_by, ended_push, open_push}
 use Rattle.edge_trace.proofs.Telling.{told_on, standing_on, told_append, standing_append, no_fault_told}
 
 -- a line that isn't too long

@@ -10,7 +10,7 @@ use Rattle.edge_trace.specs.Rows.{Units, time_field, narrow_row}
 use Rattle.edge_trace.specs.Readings.{stamp_time, time_behind, seen_by, IsStamped}
 use Rattle.edge_trace.specs.PlainRows.{IsHigh, IsPlainFront, IsRowFront, IsInUnits}
 use Rattle.line_base.proofs.Cuts.{cut_at_mark, cut_at_other, cut_at_nil}
-use Rattle.edge_trace.proofs.LineEnds.{fields_last, fields_more}
+use Rattle.edge_trace.proofs.FieldCuts.{fields_last, fields_more}
 use Rattle.edge_trace.proofs.Judging.{stamped, step_time, no_field_time, absolute_time}
 use Rattle.edge_trace.proofs.PlainRows.{line_is_in_range}
 

@@ -1,7 +1,7 @@
 -- The reader that takes a whole line at the front of a block.
 use Rattle.std.proofs.Common.{◌≡◌, ℕ, nat_lt, false, Bool, ◌^◌, ◌==◌, cond, filter, Ok, ◌+◌, ◌-◌, ◌<◌, ◌≤◌, min, Option, Some, None, List, [], ◌∷◌, ◌++◌, length, take, get_or, refl, sym, ◌∙◌, ap, subst, arith}
 use Rattle.std.proofs.lemmas.List.{take_more, append_assoc, length-take-le, get_or-take}
-use Rattle.edge_trace.specs.Lines.{without_cr}
+use Rattle.text_lines.specs.Lines.{without_cr}
 use Rattle.edge_trace.specs.EdgeLists.{content_read, Read, is_new, row_read}
 use Rattle.edge_trace.specs.Limits.{answers_of}
 use Rattle.edge_trace.specs.Rows.{Stamp, time_of, said_from}

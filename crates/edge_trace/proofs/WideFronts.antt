@@ -12,7 +12,7 @@ use Rattle.edge_trace.specs.Fields.{fields, without_blanks, seconds_at, seconds_
 use Rattle.edge_trace.specs.Readings.{stamp_time, time_behind}
 use Rattle.edge_trace.specs.PlainRows.{BeginsWithNumber, IsHigh}
 use Rattle.edge_trace.specs.WideFronts.{BeginsWithSeconds, level_byte, SpellsLevels, BeginsWithLevels, IsWideFront}
-use Rattle.edge_trace.proofs.LineEnds.{fields_last, fields_more}
+use Rattle.edge_trace.proofs.FieldCuts.{fields_last, fields_more}
 use Rattle.edge_trace.proofs.Judging.{wide_time}
 use Rattle.edge_trace.proofs.PlainRows.{time_is_in_range}
 use Rattle.edge_trace.proofs.PlainFronts.{cut_parts, digits_high, high_append}

@@ -17,7 +17,7 @@ use Rattle.edge_trace.specs.EdgeLists.{is_new}
 use Rattle.edge_trace.specs.Readings.{seen_by, IsStamped}
 use Rattle.edge_trace.specs.RowEdges.{AreBelow}
 use Rattle.edge_trace.proofs.KeptEdges.{none_below, below_higher, below_push}
-use Rattle.edge_trace.proofs.LineEnds.{fields_last, fields_more, has_first_field}
+use Rattle.edge_trace.proofs.FieldCuts.{fields_last, fields_more, has_first_field}
 use Rattle.edge_trace.proofs.Judging.{bind_err, found}
 
 -- the fields of what is left, if anything is

@@ -8,7 +8,7 @@ use Rattle.std.proofs.lemmas.List.Elements.{All-nil, All-cons, All-append}
 use Rattle.std.proofs.lemmas.Slice.Eq.{bytes_eq-Decides}
 use Rattle.line_base.specs.declared.edge.Edge.{Edge}
 use Rattle.line_base.specs.declared.faults.LineFault.{LineFault}
-use Rattle.edge_trace.specs.Lines.{ended_lines, open_line, without_cr}
+use Rattle.text_lines.specs.Lines.{ended_lines, open_line, without_cr}
 use Rattle.line_base.specs.Texts.{is_digit, after_front}
 use Rattle.edge_trace.specs.Rows.{Narrow}
 use Rattle.edge_trace.specs.EdgeLists.{AtStart, Formless, InRows, Read, is_skipped, option_else, version_read, header_read, without_row, forming_read, row_read, content_read, Told, told_with, told_from, standing_after}
@@ -16,8 +16,8 @@ use Rattle.edge_trace.specs.Limits.{answers_of, whole_answers_of}
 use Rattle.edge_trace.specs.Readers.{IsOpen, answers_of_read}
 use Rattle.edge_trace.specs.Texts.{level_digit, narrow_text}
 use Rattle.edge_trace.specs.declared.form.Form.TheVariants as variant
-use Rattle.edge_trace.proofs.Cutting.{one_line}
-use Rattle.edge_trace.proofs.LineEnds.{keeps_line}
+use Rattle.text_lines.proofs.Cutting.{one_line}
+use Rattle.text_lines.proofs.LineEnds.{keeps_line}
 use Rattle.edge_trace.proofs.Reading.{row_narrow, row_read_ok, no_time}
 use Rattle.edge_trace.proofs.Streams.{told_open, ends_line, ends_within}
 use Rattle.edge_trace.proofs.StandingFor.{answers_more, whole_more, any_number, limit_is}

@@ -4,7 +4,7 @@ use Rattle.std.specs.List.{list_all}
 use Rattle.line_base.specs.declared.edge.Edge.{Edge}
 use Rattle.line_base.specs.declared.faults.LineFault.{LineFault}
 use Rattle.line_base.specs.declared.faults.LineFault.TheVariants.{Field, Version, LineTooLong}
-use Rattle.edge_trace.specs.Lines.{without_cr}
+use Rattle.text_lines.specs.Lines.{without_cr}
 use Rattle.line_base.specs.Texts as texts
 use Rattle.line_base.specs.Texts.{after_front, before_end, number_in}
 use Rattle.line_base.specs.Steps.{◌>>=◌}

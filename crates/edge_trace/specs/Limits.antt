@@ -1,24 +1,12 @@
 -- What an edge list says whole: its rows and its fault, with the limits on a line and on the input; this project's own.
-use Rattle.std.specs.Prelude.{ℕ, ◌+◌, ◌-◌, ◌^◌, nat_lt, is_some, Option, None, Some, Result, Ok, Err, List, [], ◌∷◌, ◌++◌, length, take, map, flat_map, filter_map, if◌then◌else◌}
+use Rattle.std.specs.Prelude.{ℕ, ◌+◌, nat_lt, is_some, Option, None, Some, Result, Ok, Err, List, [], ◌∷◌, ◌++◌, length, take, map, flat_map, filter_map, if◌then◌else◌}
 use Rattle.std.specs.Result.{result_ok}
 use Rattle.line_base.specs.declared.edge.Edge.{Edge}
 use Rattle.line_base.specs.declared.faults.LineFault.{LineFault}
 use Rattle.line_base.specs.declared.faults.LineFault.TheVariants.{InputTooLong}
-use Rattle.edge_trace.specs.Lines.{ended_lines, open_line}
+use Rattle.text_lines.specs.Lines.{ended_lines, open_line}
+use Rattle.text_lines.specs.Inputs.{input_limit, last_line, lines_begun, long_line, number_at}
 use Rattle.edge_trace.specs.EdgeLists.{Told, AtStart, told_from}
-
--- how many bytes of an input may stand in lines
-unfoldable pub input_limit : ℕ
-input_limit = 2 ^ 36 - 1
-
--- an unfinished line that is too long already, of more than 512 bytes, counts as ended
-abbrev pub long_line : List ℕ → List (List ℕ)
-long_line line = if nat_lt 512 (length line) then line ∷ [] else []
-
--- an unfinished line counts as ended at the end of the input, where there is any
-abbrev pub last_line : List ℕ → List (List ℕ)
-last_line [] = []
-last_line (byte ∷ bytes) = (byte ∷ bytes) ∷ []
 
 -- what is told of the lines of so many bytes as may stand in lines
 unfoldable pub told_within : List ℕ → List Told
@@ -73,15 +61,6 @@ whole_fault_of bytes = fault_in (whole_told_of bytes)
 -- the rows of these bytes and no more, and then the fault
 unfoldable pub whole_answers_of : List ℕ → List (Result (List Edge) LineFault)
 whole_answers_of bytes = map (λ t. t.1) (whole_told_of bytes)
-
--- how many lines these bytes have begun
-abbrev pub lines_begun : List ℕ → ℕ
-lines_begun bytes = length (ended_lines bytes) + length (last_line (open_line bytes))
-
--- the number of the fault's line, or else this one
-abbrev pub number_at : Option (ℕ × LineFault) → ℕ → ℕ
-number_at None number = number
-number_at (Some fault) number = fault.0
 
 -- the number, from 1, of the line of the last byte, or of the fault; 0 before the first byte
 unfoldable pub line_number_of : List ℕ → ℕ

@@ -2,9 +2,10 @@
 use Rattle.std.specs.Prelude.{◌≡◌, ℕ, ◌+◌, ◌^◌, ◌<◌, ◌≤◌, ◌⊎◌, min, slice_index, take, Option, None, Some, Result, Ok, Err, List, [], ◌∷◌, ◌++◌, length, map}
 use Rattle.line_base.specs.declared.edge.Edge.{Edge}
 use Rattle.line_base.specs.declared.faults.LineFault.{LineFault}
-use Rattle.edge_trace.specs.Lines.{ended_lines, open_line}
+use Rattle.text_lines.specs.Lines.{ended_lines, open_line}
 use Rattle.edge_trace.specs.EdgeLists.{Standing, AtStart, Read, told_with, standing_after}
-use Rattle.edge_trace.specs.Limits.{input_limit, last_line, fault_of, answers_of}
+use Rattle.edge_trace.specs.Limits.{fault_of, answers_of}
+use Rattle.text_lines.specs.Inputs.{input_limit, last_line}
 use Rattle.edge_trace.specs.Readings.{IsAt}
 use Rattle.edge_trace.specs.declared.state.State.{State}
 use Rattle.edge_trace.specs.declared.row.Row.{Row}

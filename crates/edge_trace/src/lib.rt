@@ -11,7 +11,6 @@ mod edges_left;
 mod form;
 mod heads;
 mod levels;
-mod line_bytes;
 mod lines;
 mod list_laws;
 mod narrow;
@@ -31,8 +30,7 @@ mod wide_fronts;
 pub use edge_text::edge_line;
 pub use edges_left::EdgesLeft;
 pub use list_laws::{
-    answers_grow, edges_are_ordered, edges_are_orderly, faults_stay,
-    lines_are_cut_at_each_line_feed, written_edges_are_read_back,
+    answers_grow, edges_are_ordered, edges_are_orderly, faults_stay, written_edges_are_read_back,
 };
-pub use reader::{EdgeReader, INPUT_LIMIT};
+pub use reader::EdgeReader;
 pub use row::{Row, RowEdges};

@@ -1,21 +1,13 @@
 //! What holds of every edge list, over the definitions of its lines, answers and edges.
-ghost use Rattle.std.specs.Prelude.{◌≡◌, ◌≢◌, ℕ, ◌^◌, ◌≤◌, None, Some, Ok, List, [], ◌∷◌, ◌++◌, flat_map, All};
+ghost use Rattle.std.specs.Prelude.{◌≡◌, ℕ, ◌^◌, ◌≤◌, None, Some, Ok, List, [], ◌∷◌, ◌++◌};
 ghost use Rattle.line_base.specs.Orderly.{IsOrderly};
 ghost use Rattle.line_base.specs.declared.edge.Edge.{Edge};
 ghost use Rattle.line_base.specs.declared.faults.LineFault.{LineFault};
 ghost use Rattle.edge_trace.specs.Items.{items_on};
 ghost use Rattle.edge_trace.specs.Limits.{edges_of, fault_of, answers_of, whole_edges_of, whole_answers_of};
-ghost use Rattle.edge_trace.specs.Lines.{ended_lines, open_line};
 ghost use Rattle.edge_trace.specs.MoreBytes.{Stays, TellsNoMore};
 ghost use Rattle.edge_trace.specs.Ordered.{AreOrdered};
 ghost use Rattle.edge_trace.specs.Texts.{narrow_text};
-
-/// Does nothing; its contract is a law. Bytes are cut into lines at each LF and nowhere else: the lines
-/// that ended, each with its LF, and then the line that goes on, are the bytes, and no line holds an LF.
-pub fn lines_are_cut_at_each_line_feed()
-    ensures joined { (bytes : List ℕ) → flat_map (λ line. line ++ 10 ∷ []) (ended_lines bytes) ++ open_line bytes ≡ bytes }
-    ensures no_line_feed { (bytes : List ℕ) → All (λ line. All (λ byte. byte ≢ 10) line) (ended_lines bytes ++ open_line bytes ∷ []) }
-{}
 
 /// Does nothing; its contract is a law. The row that `edge_line` writes of an edge on a line 0 to 15, at most
 /// at 10^15 ns, gives that one edge and nothing else: as a whole input, and as a line with its LF.

@@ -13,7 +13,7 @@ use crate::plain::{plain_front, plain_row};
 use crate::stamps::time_in;
 use crate::texts::trimmed;
 use line_base::text::{cut, number_of};
-use line_base::{Edge, LineFault, MAX_TIME};
+use line_base::{Edge, LineFault};
 
 /// The line number of a field, 0 to 15.
 #[inline]
@@ -53,7 +53,7 @@ pub(crate) fn plain_narrow(before: u64, content: &[u8]) -> Option<Edge>
     ensures time { IfSome result (λ edge. edge.time ≤ 10 ^ 15) }
 {
     let edge = plain_row(content)?;
-    if edge.time < before || edge.time > MAX_TIME {
+    if edge.time < before {
         return None;
     }
     Some(edge)
@@ -68,7 +68,7 @@ pub(crate) fn narrow_front(before: u64, text: &[u8]) -> Option<(Edge, usize)>
     ensures time { IfSome result (λ found. found.0.time ≤ 10 ^ 15) }
 {
     let (edge, count) = plain_front(text)?;
-    if before <= edge.time && edge.time <= MAX_TIME {
+    if before <= edge.time {
         Some((edge, count))
     } else {
         None

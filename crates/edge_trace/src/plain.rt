@@ -1,13 +1,13 @@
 //! Plain rows: digits, digits and a level with commas between them, and no blanks. Nearly all narrow rows
 //! are plain, so these are read in one pass; any other row is judged field by field.
-ghost use Rattle.std.specs.Prelude.{◌<◌, ◌≤◌, IfSome};
+ghost use Rattle.std.specs.Prelude.{◌<◌, ◌≤◌, ◌^◌, IfSome};
 ghost use Rattle.edge_trace.specs.PlainRows.{BeginsWithNumber, SpellsEdge, IsPlainFront};
 
 use crate::digits::level_of;
 use line_base::Edge;
 
-/// The most bytes of a number of 16 digits and the byte behind it. Such a number fits 64 bits.
-const NUMBER_ROOM: usize = 17;
+/// The most bytes of a number of 15 digits and the byte behind it. Such a number is below 10^15.
+const NUMBER_ROOM: usize = 16;
 
 /// The most bytes of a plain row with its LF, and more. Where a text has so many bytes, the loops over digits
 /// have a fixed length.
@@ -16,11 +16,12 @@ pub(crate) const FRONT_ROOM: usize = 40;
 /// The digit `0`. Any byte that is no digit is more than 9 above it, or wraps to more.
 const ZERO: u64 = 48;
 
-/// The number of the digits, at most 16, before the first such byte of a text, and what stands behind that.
+/// The number of the digits, at most 15, before the first such byte of a text, and what stands behind that.
 #[inline(always)]
 pub(crate) fn number_before(mark: u8, text: &[u8]) -> Option<(u64, &[u8])>
     requires { mark < 48 }
-    ensures { IfSome result (λ parts. BeginsWithNumber mark text.now parts.0 parts.1.now) }
+    ensures begins { IfSome result (λ parts. BeginsWithNumber mark text.now parts.0 parts.1.now) }
+    ensures small { IfSome result (λ parts. parts.0 < 10 ^ 15) }
 {
     let front = &text[..NUMBER_ROOM.min(text.len())];
     let mut number = 0u64;
@@ -42,6 +43,7 @@ pub(crate) fn number_before(mark: u8, text: &[u8]) -> Option<(u64, &[u8])>
 pub(crate) fn plain_row(content: &[u8]) -> Option<Edge>
     ensures spelled { IfSome result (λ edge. SpellsEdge content.now edge) }
     ensures line { IfSome result (λ edge. edge.line ≤ 15) }
+    ensures time { IfSome result (λ edge. edge.time < 10 ^ 15) }
 {
     let (time, rest) = number_before(b',', content)?;
     let (line, last) = number_before(b',', rest)?;
@@ -62,6 +64,7 @@ pub(crate) fn plain_row(content: &[u8]) -> Option<Edge>
 pub(crate) fn plain_front(text: &[u8]) -> Option<(Edge, usize)>
     ensures front { IfSome result (λ found. IsPlainFront text.now found.0 found.1) }
     ensures line { IfSome result (λ found. found.0.line ≤ 15) }
+    ensures time { IfSome result (λ found. found.0.time < 10 ^ 15) }
 {
     if text.len() < FRONT_ROOM {
         return None;

@@ -9,18 +9,15 @@ ghost use Rattle.edge_trace.specs.declared.state.State.TheVariants as state;
 
 use crate::form::Form;
 use crate::levels::{Levels, is_edge, keep_levels};
-use crate::line_bytes::{LINE_LIMIT, LineBytes};
 use crate::lines::read_content;
 use crate::narrow::narrow_front;
 use crate::row::{Row, RowEdges};
 use crate::state::State;
-use crate::texts::{content, length_before};
+use crate::texts::length_before;
 use crate::units::units_front;
 use crate::wide_fronts::wide_front;
 use line_base::{Edge, LineFault, MAX_TIME};
-
-/// How many bytes of an input may stand in lines: 2^36 - 1.
-pub const INPUT_LIMIT: u64 = 68_719_476_735;
+use text_lines::{INPUT_LIMIT, LINE_LIMIT, LineBytes, content_of};
 
 /// Reads an edge list byte by byte: both versions, the narrow and the wide form.
 ///
@@ -73,12 +70,13 @@ impl EdgeReader {
     ghost use Rattle.std.specs.Prelude.{◌≢◌, ◌<◌, ◌+◌, ◌-◌, ◌==◌, ◌⊎◌, List, [], ◌∷◌, ◌++◌, length, take, filter, slice_index_or, Option, None, Err, if◌then◌else◌};
     ghost use Rattle.std.specs.Option.{option_to_list};
     ghost use Rattle.line_base.specs.declared.faults.LineFault.{LineFault as Fault};
-    ghost use Rattle.edge_trace.specs.Lines.{without_cr};
+    ghost use Rattle.text_lines.specs.Lines.{without_cr};
     ghost use Rattle.edge_trace.specs.EdgeLists.{Standing, content_read, is_new};
     ghost use Rattle.edge_trace.specs.declared.form.Form.TheVariants as variant;
-    ghost use Rattle.edge_trace.specs.Limits.{fault_of, answers_of, whole_fault_of, whole_answers_of, line_number_of, last_line};
+    ghost use Rattle.edge_trace.specs.Limits.{fault_of, answers_of, whole_fault_of, whole_answers_of, line_number_of};
+    ghost use Rattle.text_lines.specs.Inputs.{last_line};
     ghost use Rattle.edge_trace.specs.PlainRows.{IsRowFront};
-    ghost use Rattle.edge_trace.specs.Readings.{IsAt, IsForm, form_of};
+    ghost use Rattle.edge_trace.specs.Readings.{IsAt, form_of};
     ghost use Rattle.edge_trace.specs.Readers.{answers_in, answers_with, answers_of_row, StandsFor, GoesOn, HasEnded, Takes, EndsLine, IsLongest};
 
     /// A reader of no bytes.
@@ -149,11 +147,26 @@ impl EdgeReader {
             return (0, None);
         }
         if let Some(State::Rows(Form::Units(unit), before)) = self.state {
-            if let Some((edge, count)) = units_front(unit, before, block) {
-                return self.take_front(Form::Units(unit), before, edge, count, block);
-            }
+            return self.take_units_row(unit, before, block);
         }
         (0, None)
+    }
+
+    /// The same where the list is of version 2, in units of so many ns, and stands behind a row of a time of
+    /// `before` ns.
+    #[inline(always)]
+    fn take_units_row(&mut self, unit: u32, before: u64, block: &[u8]) -> (usize, Option<Edge>)
+        requires empty { length self.old.line ≡ 0 }
+        requires state { self.old.state ≡ Some (state.Rows (variant.Units unit) before) }
+        ensures fits { result.0 ≤ length block.now }
+        ensures in_range { IfSome result.1 (λ edge. edge.time ≤ 10 ^ 15) }
+        ensures stands { (seen : List ℕ) → StandsFor self.old seen → StandsFor self.new (seen ++ take result.0 block.now) }
+        ensures grows { (seen : List ℕ) → StandsFor self.old seen → answers_of (seen ++ take result.0 block.now) ≡ answers_of seen ++ answers_with result.1 }
+    {
+        match units_front(unit, before, block) {
+            Some((edge, count)) => self.take_front(Form::Units(unit), before, edge, count, block),
+            None => (0, None),
+        }
     }
 
     /// Takes a narrow row of so many bytes and its LF at the front of a block, behind a row of a time of
@@ -229,12 +242,15 @@ impl EdgeReader {
         ensures same { IfSome result (λ told. told ≡ edge) }
         ensures levels { (line : ℕ) → slice_index_or self.new.levels line None ≡ (if edge.line == line then Some edge.level else slice_index_or self.old.levels line None) }
     {
-        let told = is_edge(edge, &mut self.levels);
         keep_time(&mut self.state, edge.time);
         self.left = self.left.saturating_sub(count as u64 + 1);
         self.room = room_in(self.left);
         self.ended = self.ended.saturating_add(1);
-        if told { Some(edge) } else { None }
+        if is_edge(edge, &mut self.levels) {
+            Some(edge)
+        } else {
+            None
+        }
     }
 
     /// Ends the input: an unfinished last line counts as ended. This is the last answer.
@@ -318,7 +334,7 @@ impl EdgeReader {
         ensures left { self.new.left ≡ self.old.left - (length self.old.line + 1) }
     {
         let mut edges = RowEdges::new();
-        let line = content(self.line.as_slice());
+        let line = content_of(self.line.as_slice());
         let read = read_content(state, line, &mut self.levels, &mut edges);
         self.left = self.left.saturating_sub(self.line.len() as u64 + 1);
         match read {

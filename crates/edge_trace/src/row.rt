@@ -1,5 +1,5 @@
 //! What a line of input gives: the edges of its row.
-ghost use Rattle.std.specs.Prelude.{◌≡◌, ℕ, ◌+◌, ◌<◌, ◌≤◌, ◌==◌, List, [], ◌∷◌, ◌++◌, length, filter, Some};
+ghost use Rattle.std.specs.Prelude.{◌≡◌, ◌+◌, ◌<◌, ◌≤◌, ◌==◌, List, [], ◌∷◌, ◌++◌, length, filter, Some};
 ghost use Rattle.std.specs.Option.{option_to_list};
 ghost use Rattle.edge_trace.specs.RowEdges.{AreBelow, digit_for};
 

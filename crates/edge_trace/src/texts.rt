@@ -1,6 +1,5 @@
-//! Parts of a line: what stands before a byte, without blanks, without a CR.
+//! Parts of a line: what stands before a byte, without blanks.
 ghost use Rattle.std.specs.Prelude.{◌≡◌, ◌≢◌, ℕ, ◌<◌, ◌≤◌, ◌⊎◌, length, slice_index};
-ghost use Rattle.edge_trace.specs.Lines.{without_cr};
 ghost use Rattle.edge_trace.specs.Fields.{without_blanks};
 
 use memchr::memchr;
@@ -31,17 +30,4 @@ pub(crate) fn trimmed(field: &[u8]) -> &[u8]
         }
     }
     &[]
-}
-
-/// A line without the one CR at its end, if it has one.
-#[inline]
-pub(crate) fn content(line: &[u8]) -> &[u8]
-    ensures { result.now ≡ without_cr line.now }
-{
-    if let Some((last, front)) = line.split_last() {
-        if *last == b'\r' {
-            return front;
-        }
-    }
-    line
 }

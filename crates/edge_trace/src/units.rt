@@ -1,12 +1,12 @@
 //! Plain rows of version 2, whose times count units: from the start of the list, or behind a plus from the
 //! row before.
-ghost use Rattle.std.specs.Prelude.{◌≡◌, ◌≤◌, ◌^◌, ◌∷◌, IfSome};
+ghost use Rattle.std.specs.Prelude.{◌<◌, ◌≤◌, ◌^◌, ◌∷◌, IfSome};
 ghost use Rattle.edge_trace.specs.Rows as row;
 ghost use Rattle.edge_trace.specs.PlainRows.{IsRowFront, IsInUnits};
 
 use crate::plain::plain_front;
 use crate::stamps::time_after;
-use line_base::{Edge, MAX_TIME};
+use line_base::Edge;
 
 /// The edge of a row that was written with so many units of so many ns behind a start. There is none above
 /// 10^15 ns, or before a row of a time of `before` ns.
@@ -14,12 +14,10 @@ use line_base::{Edge, MAX_TIME};
 fn in_units(start: u64, unit: u32, before: u64, written: Edge) -> Option<Edge>
     requires start { start ≤ 10 ^ 15 }
     requires unit { 1 ≤ unit }
+    requires written { written.time < 10 ^ 15 }
     ensures known { IfSome result (λ edge. IsInUnits start unit before written edge) }
     ensures time { IfSome result (λ edge. edge.time ≤ 10 ^ 15) }
 {
-    if written.time > MAX_TIME {
-        return None;
-    }
     let Ok(time) = time_after(start, unit, Some(written.time)) else {
         return None;
     };

@@ -8,5 +8,6 @@ pub mod Standing
 pub mod Writes
 pub mod Cuts
 pub mod Numbers
+pub mod WholeNumbers
 pub mod Decimals
 pub mod KeptSpans

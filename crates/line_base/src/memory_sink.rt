@@ -1,5 +1,5 @@
 //! A sink in memory, which has room for so many bytes and fails at chosen puts.
-ghost use Rattle.std.specs.Prelude.{◌≡◌, ℕ, ◌+◌, ◌<◌, ◌≤◌, ◌↔◌, ◌⊎◌, length, [], Some, Contains, IsErr, IfOk, OnErr};
+ghost use Rattle.std.specs.Prelude.{◌≡◌, ◌+◌, ◌<◌, ◌≤◌, ◌↔◌, ◌⊎◌, length, [], Some, Contains, IsErr, IfOk, OnErr};
 ghost use Rattle.line_base.specs.Causes.{Counts, HasCause, next_count};
 ghost use Rattle.line_base.specs.Streams.{PutAppends};
 

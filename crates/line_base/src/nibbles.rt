@@ -1,5 +1,5 @@
 //! A list of 1 to 6 data nibbles, by value.
-ghost use Rattle.std.specs.Prelude.{◌≡◌, IfSome, IfNone, ◌↔◌, IsSome};
+ghost use Rattle.std.specs.Prelude.{◌≡◌, IfSome, ◌↔◌, IsSome};
 ghost use Rattle.line_base.specs.Nibbles.{AreNibbles};
 
 use std::marker::Model;

@@ -1,6 +1,6 @@
-//! Parts of a text, and decimal numbers. Digits have no greatest number: a number above 10^15 is read as
-//! [`MANY`], which is above every bound that is asked of it.
-ghost use Rattle.std.specs.Prelude.{◌≡◌, ◌≤◌, Some, None, option_copied, option_map, IfSome, if◌then◌else◌};
+//! Parts of a text, and decimal numbers. Digits have no greatest number: [`number_of`] reads a number above 10^15 as
+//! [`MANY`], which is above every bound that is asked of it, and [`value_of`] reads none from 2^64 on.
+ghost use Rattle.std.specs.Prelude.{◌≡◌, ◌^◌, ◌<◌, ◌≤◌, Some, None, SomeIff, option_copied, option_map, IfSome, if◌then◌else◌};
 ghost use Rattle.std.specs.List.{list_all};
 ghost use Rattle.line_base.specs.Texts.{after_front, before_end, capped, cut_at, is_digit, number_after, number_in};
 
@@ -63,4 +63,16 @@ pub fn number_of(field: &[u8]) -> Option<u64>
         return None;
     }
     digits_after(0, field)
+}
+
+/// The number that decimal digits write, 0 to 2^64 - 1 and 0 for no digits; `None` where it is 2^64 or more.
+pub fn value_of(digits: &[u8]) -> Option<u64>
+    ensures { SomeIff result (number_after 0 digits.now < 2 ^ 64) (number_after 0 digits.now) }
+{
+    let mut number: u64 = 0;
+    for digit in digits {
+        let value = u64::from(digit.saturating_sub(b'0'));
+        number = number.checked_mul(10)?.checked_add(value)?;
+    }
+    Some(number)
 }

@@ -1,5 +1,5 @@
 //! The lines of a tooth-gap downlink.
-ghost use Rattle.std.specs.Prelude.{◌≡◌, ◌≤◌};
+ghost use Rattle.std.specs.Prelude.{◌≡◌};
 ghost use Rattle.report_text.specs.Readings.{left};
 ghost use Rattle.message_lines.specs.Lines.{down_spelled, tooth_words, behind_word};
 ghost use Rattle.message_lines.specs.Readings.{small_message};

@@ -1,5 +1,5 @@
 //! Which messages fit a channel.
-ghost use Rattle.std.specs.Prelude.{◌≡◌, ◌≤◌, ◌^◌, nat_lt, option_map};
+ghost use Rattle.std.specs.Prelude.{◌≡◌, ◌≤◌, ◌^◌, nat_lt};
 ghost use Rattle.psi5_downlink.specs.Frames.{wide};
 ghost use Rattle.message_lines.specs.Messages.{status_limit, frame_fits, sent_fits, spc_fits, payload_fits, slot_fits, psi5_fits, down_fits, tooth_fits, slot_count, message_fits, IsMade, AreFewSlots, HaveShortParts};
 

@@ -1,5 +1,5 @@
 //! The lines of a PSI5 bus: sync pulses and bursts.
-ghost use Rattle.std.specs.Prelude.{◌≡◌, ◌≤◌};
+ghost use Rattle.std.specs.Prelude.{◌≡◌};
 ghost use Rattle.report_text.specs.Readings.{left};
 ghost use Rattle.message_lines.specs.Lines.{sync_spelled, payload_spelled, burst_spelled, psi5_words, behind_word};
 ghost use Rattle.message_lines.specs.Readings.{small_message};

@@ -1,5 +1,5 @@
 //! The lines of a SENT sensor: frames and serial messages.
-ghost use Rattle.std.specs.Prelude.{◌≡◌, ◌≤◌};
+ghost use Rattle.std.specs.Prelude.{◌≡◌};
 ghost use Rattle.report_text.specs.Readings.{left};
 ghost use Rattle.message_lines.specs.Lines.{frame_spelled, short_spelled, narrow_spelled, wide_spelled, serial_words, sent_words, behind_word};
 ghost use Rattle.message_lines.specs.Readings.{small_message};

@@ -1,5 +1,5 @@
 //! The lines of SPC: a trigger with its answer, and one that no sensor answers.
-ghost use Rattle.std.specs.Prelude.{◌≡◌, ◌≤◌};
+ghost use Rattle.std.specs.Prelude.{◌≡◌};
 ghost use Rattle.report_text.specs.Readings.{left};
 ghost use Rattle.message_lines.specs.Lines.{answer_spelled, silent_spelled, spc_words, behind_word};
 ghost use Rattle.message_lines.specs.Readings.{small_message};

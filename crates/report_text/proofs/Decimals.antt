@@ -1,12 +1,11 @@
 -- Decimal numbers, and the digits that spell them.
-use Rattle.std.proofs.Common.{◌≡◌, ℕ, ◌+◌, ◌-◌, ◌*◌, ◌/◌, ◌%◌, ◌^◌, ◌<◌, ◌≤◌, ◌&&◌, nat_le, nat_lt, not, Bool, true, false, cond, Option, Some, None, Result, Ok, Err, ok_or, option_map, SomeIff, List, [], ◌∷◌, length, get_or, drop, decimal, refl, sym, ◌∙◌, ap, subst, inl, inr, arith}
+use Rattle.std.proofs.Common.{◌≡◌, ℕ, ◌+◌, ◌-◌, ◌*◌, ◌/◌, ◌%◌, ◌^◌, ◌<◌, ◌≤◌, ◌&&◌, nat_le, nat_lt, not, Bool, true, false, cond, Option, Some, None, Result, Ok, Err, ok_or, option_map, SomeIff, List, [], ◌∷◌, length, get_or, decimal, refl, sym, ◌∙◌, ap, subst, inl, inr, arith}
 use Rattle.std.specs.List.{list_all}
 use Rattle.std.proofs.lemmas.Bool.{and_parts, and_from, leb-true, le-leb, lt-ltb, ltb-true, ne_eqb, eq-eqb, not-true, cases_lt, false_from_ne_true}
-use Rattle.std.proofs.lemmas.List.{drop_more, drop_all}
 use Rattle.std.proofs.lemmas.Fmt.{decimal_digit, first_decimal, digits_decimal, decimal-digits_value}
 use Rattle.line_base.specs.Texts.{is_digit, is_number, number_after, number_in}
 use Rattle.line_base.specs.Texts.{capped}
-use Rattle.line_base.proofs.Numbers.{digit_true, number_after_ge, a_number}
+use Rattle.line_base.proofs.Numbers.{digit_true, a_number}
 use Rattle.line_base.proofs.Decimals.{numerals, number_back, digit_bounds}
 use Rattle.report_text.specs.declared.fault.TextFault.{TextFault}
 use Rattle.report_text.specs.declared.fault.TextFault.TheVariants.{Number, Range}
@@ -14,29 +13,6 @@ use Rattle.line_base.specs.Steps.{◌>>=◌, check}
 use Rattle.report_text.specs.Decimals.{two_digits, digit_in, channel_in, has_leading_zero, number_spelled, count_spelled, IsBetween, number_between}
 use Rattle.report_text.proofs.Steps.{bind_ok, check_ok, some_ok, ok_is}
 use Rattle.report_text.proofs.Cutting.{is_other}
-
--- the digits of a number that is read digit by digit, and stays below 2^64
-pub record DigitsSoFar (digits : List ℕ) (number : ℕ) (left : List ℕ) : Type 0 where
-  pub whole : number_after number left ≡ number_after 0 digits
-  pub small : number < 2 ^ 64
-
-one_after : (digits : List ℕ) (number i : ℕ) → DigitsSoFar digits number (drop i digits) → i < length digits → number_after (number * 10 + (get_or digits i 0 - 48)) (drop (i + 1) digits) ≡ number_after 0 digits
-one_after digits number i so_far within = ap (number_after number) (sym (drop_more digits i 0 within)) ∙ so_far.whole
-
-pub one_more : (digits : List ℕ) (number i : ℕ) → DigitsSoFar digits number (drop i digits) → i < length digits → number * 10 + (get_or digits i 0 - 48) < 2 ^ 64 → DigitsSoFar digits (number * 10 + (get_or digits i 0 - 48)) (drop (i + 1) digits)
-one_more digits number i so_far within small = record { whole = one_after digits number i so_far within; small = small }
-
--- a number whose first digits pass the bound passes it
-pub too_large : (digits : List ℕ) (number i : ℕ) → DigitsSoFar digits number (drop i digits) → i < length digits → 2 ^ 64 ≤ number * 10 + (get_or digits i 0 - 48) → number_after 0 digits < 2 ^ 64 → ⊥
-too_large digits number i so_far within large below =
-    let later = one_after digits number i so_far within in
-    let grows = number_after_ge (number * 10 + (get_or digits i 0 - 48)) (drop (i + 1) digits) in
-    omega (arith, later, grows)
-
-pub all_digits : (digits : List ℕ) (number i : ℕ) → DigitsSoFar digits number (drop i digits) → length digits ≤ i → (number_after 0 digits < 2 ^ 64) × (number ≡ number_after 0 digits)
-all_digits digits number i so_far past =
-    let same : number ≡ number_after 0 digits = sym (ap (number_after number) (drop_all i digits past)) ∙ so_far.whole in
-    (subst (λ n. n < 2 ^ 64) same so_far.small, same)
 
 -- a byte that isn't a space, since it is a digit
 digit_other : (byte : ℕ) → 48 ≤ byte → is_other byte ≡ true

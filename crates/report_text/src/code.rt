@@ -1,5 +1,5 @@
 //! What data A of a burst says, as fields of a line.
-ghost use Rattle.std.specs.Prelude.{◌≡◌, ◌+◌, ◌≤◌, ◌++◌, length, IfOk};
+ghost use Rattle.std.specs.Prelude.{◌≡◌, ◌+◌, ◌≤◌, ◌++◌, length};
 ghost use Rattle.std.specs.Fmt.{signed_decimal};
 ghost use Rattle.report_text.specs.Codes.{code_fields, negative_in, signal_in, signal_read, block_read, nibble_read, reserved_read, code_behind, code_read};
 ghost use Rattle.report_text.specs.Fields.{spaced, value_read};

@@ -1,6 +1,5 @@
 //! Decimal numbers in a line.
-ghost use Rattle.std.specs.Prelude.{◌≡◌, ◌+◌, ◌^◌, ◌<◌, ◌≤◌, ◌++◌, IfOk, SomeIff, decimal, length};
-ghost use Rattle.line_base.specs.Texts.{number_after};
+ghost use Rattle.std.specs.Prelude.{◌≡◌, ◌+◌, ◌<◌, ◌≤◌, ◌++◌, IfOk, decimal, length};
 ghost use Rattle.report_text.specs.Decimals.{two_digits, digit_in, channel_in, has_leading_zero, number_spelled, count_spelled, IsBetween, number_between};
 ghost use Rattle.report_text.specs.Fields.{value_read};
 ghost use Rattle.report_text.specs.Readings.{Reads, left};
@@ -75,18 +74,6 @@ fn channel_of(field: &[u8]) -> Result<u8, TextFault>
     }
 }
 
-/// The number that decimal digits write, or `None` where it is 2^64 or more.
-fn value_of(digits: &[u8]) -> Option<u64>
-    ensures { SomeIff result (number_after 0 digits.now < 2 ^ 64) (number_after 0 digits.now) }
-{
-    let mut number: u64 = 0;
-    for digit in digits {
-        let value = u64::from(digit.saturating_sub(b'0'));
-        number = number.checked_mul(10)?.checked_add(value)?;
-    }
-    Some(number)
-}
-
 /// Whether a field begins with a zero that others follow.
 pub fn has_leading_zero(field: &[u8]) -> bool
     ensures { result ≡ has_leading_zero field.now }
@@ -107,7 +94,7 @@ pub(crate) fn number_of(field: &[u8]) -> Result<u64, TextFault>
     if has_leading_zero(field) {
         return Err(TextFault::Number);
     }
-    value_of(field).ok_or(TextFault::Range)
+    text::value_of(field).ok_or(TextFault::Range)
 }
 
 /// The count of a field, 1 or more; the faults of a number, and `Range` for 0.

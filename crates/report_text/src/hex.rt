@@ -1,6 +1,5 @@
 //! Hexadecimal digits in a line, in upper case.
-ghost use Rattle.std.specs.Prelude.{◌≡◌, ◌+◌, ◌^◌, ◌<◌, ◌≤◌, ◌++◌, [], ◌∷◌, All, IfOk, length, map};
-ghost use Rattle.line_base.specs.Nibbles.{AreNibbles};
+ghost use Rattle.std.specs.Prelude.{◌≡◌, ◌+◌, ◌^◌, ◌<◌, ◌≤◌, ◌++◌, [], ◌∷◌, IfOk, length, map};
 ghost use Rattle.report_text.specs.Hex.{hex_digit, hex_text, nibble_in, hex_in, hex_to, data_in};
 ghost use Rattle.report_text.specs.Fields.{value_read};
 ghost use Rattle.report_text.specs.Readings.{Reads, left};

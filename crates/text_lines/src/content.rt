@@ -4,7 +4,7 @@ ghost use Rattle.text_lines.specs.Lines.{is_blank, without_cr};
 
 /// A line without the one CR at its end, if it has one.
 #[inline]
-pub(crate) fn content_of(line: &[u8]) -> &[u8]
+pub fn content_of(line: &[u8]) -> &[u8]
     ensures { result.now ≡ without_cr line.now }
 {
     if let Some((last, front)) = line.split_last() {

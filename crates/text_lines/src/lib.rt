@@ -12,6 +12,7 @@ mod reader;
 #[cfg(test)]
 mod tests;
 
-pub use content::is_skipped;
+pub use content::{content_of, is_skipped};
+pub use line_bytes::{LINE_LIMIT, LineBytes};
 pub use list_laws::{lines_are_cut_at_each_line_feed, lines_grow};
 pub use reader::{INPUT_LIMIT, LineReader};

@@ -3,12 +3,12 @@ ghost use Rattle.std.specs.Prelude.{◌≡◌, ◌+◌, ◌<◌, ◌≤◌, [], 
 
 use std::marker::Model;
 
-/// How many bytes a line may have before its end.
-pub(crate) const LINE_LIMIT: usize = 512;
+/// How many bytes a line may have before its LF: 512, this project's own limit.
+pub const LINE_LIMIT: usize = 512;
 
 /// The bytes of a line. Contracts see the list.
 #[derive(Drop)]
-pub(crate) struct LineBytes {
+pub struct LineBytes {
     cells: [u8; 512],
     count: usize,
 }
@@ -25,7 +25,7 @@ impl Model for LineBytes {
 
 impl LineBytes {
     /// No bytes.
-    pub(crate) fn new() -> LineBytes
+    pub fn new() -> LineBytes
         ensures { result ≡ [] }
     {
         LineBytes {
@@ -36,7 +36,7 @@ impl LineBytes {
 
     /// How many bytes there are, up to 512.
     #[inline]
-    pub(crate) fn len(&self) -> usize
+    pub fn len(&self) -> usize
         ensures length { result ≡ length self.now }
         ensures limit { result ≤ 512 }
     {
@@ -45,7 +45,7 @@ impl LineBytes {
 
     /// The bytes.
     #[inline]
-    pub(crate) fn as_slice(&self) -> &[u8]
+    pub fn as_slice(&self) -> &[u8]
         ensures { result.now ≡ self.now }
     {
         &self.cells[..self.count]
@@ -53,7 +53,7 @@ impl LineBytes {
 
     /// Adds a byte at the end. There are fewer than 512.
     #[inline]
-    pub(crate) fn push(&mut self, byte: u8)
+    pub fn push(&mut self, byte: u8)
         requires { length self.old < 512 }
         ensures { self.new ≡ self.old ++ byte ∷ [] }
     {
@@ -61,9 +61,20 @@ impl LineBytes {
         self.count += 1;
     }
 
+    /// Adds bytes at the end. There are at most 512 with them.
+    #[inline]
+    pub fn extend(&mut self, bytes: &[u8])
+        requires { length self.old + length bytes.now ≤ 512 }
+        ensures { self.new ≡ self.old ++ bytes.now }
+    {
+        let end = self.count + bytes.len();
+        self.cells[self.count..end].copy_from_slice(bytes);
+        self.count = end;
+    }
+
     /// Drops all bytes.
     #[inline]
-    pub(crate) fn clear(&mut self)
+    pub fn clear(&mut self)
         ensures { self.new ≡ [] }
     {
         self.count = 0;

@@ -1,6 +1,6 @@
 //! What holds of the lines of all bytes, over their definitions.
 ghost use Rattle.std.specs.Prelude.{◌≡◌, ◌≢◌, ℕ, List, [], ◌∷◌, ◌++◌, flat_map, All};
-ghost use Rattle.text_lines.specs.Inputs.{Stays, lines_of, whole_lines_of};
+ghost use Rattle.text_lines.specs.Inputs.{Stays};
 ghost use Rattle.text_lines.specs.Lines.{ended_lines, open_line};
 
 /// Does nothing; its contract is a law. Bytes are cut into lines at each LF and nowhere else: the lines

@@ -28,7 +28,6 @@ pub struct LineReader {
 
 impl LineReader {
     ghost use Rattle.std.specs.Prelude.{◌∷◌, ◌++◌, [], List, None, false};
-    ghost use Rattle.text_lines.specs.Lines.{without_cr};
     ghost use Rattle.text_lines.specs.Inputs.{lines_of, whole_lines_of, line_number_of};
     ghost use Rattle.text_lines.specs.Readers.{number_in, content_in, lines_in, last_in, StandsFor, GoesOn, IsReady, HasEnded, Takes};
 

@@ -47,7 +47,11 @@ fn rows_that_are_taken_whole_are_those_of_single_bytes(rt: HostRuntime) -> Resul
             3,
         ),
         ("0,0,1\n5,16,1\n", 0),
-        ("0,0,1\n1000000000000000,0,0\n1000000000000001,0,1\n", 1),
+        // A time of 16 digits is left to be read by the line.
+        (
+            "0,0,1\n999999999999999,0,0\n1000000000000000,0,1\n1000000000000001,0,0\n",
+            1,
+        ),
         ("5,0,1\n9,0,0\n8,0,1\n", 1),
         ("5,0,1\n9,0,0\r\n9,0,1\n", 1),
         (

@@ -4,8 +4,8 @@ use Rattle.edge_trace.specs.PlainRows.{BeginsWithNumber}
 use Rattle.edge_trace.proofs.PlainRows.{NumberSoFar, one_more_digit, wrapped_digit, digit_fits, number_found}
 use Rattle.edge_trace.proofs.plain.number_before.Goals as goal
 
-pub returns-then-i-gt0 : goal.returns-then-i-gt0
-returns-then-i-gt0 c =
+pub returns-then-i-gt0-clause-begins : goal.returns-then-i-gt0-clause-begins
+returns-then-i-gt0-clause-begins c =
     let text = c.args.text.now in
     let i : ℕ = c.loop-i.i in
     let most = c.min.ensures in
@@ -13,6 +13,13 @@ returns-then-i-gt0 c =
     let e : get_or (take c.min.result text) i 0 ≡ get_or text i 0 = get_or-take c.min.result text i 0 (omega (arith, long, c.loop-i-test.true)) in
     subst (λ (rest : List ℕ). BeginsWithNumber c.args.mark text c.loop-i.number rest) (sym (take_all (length text - (i + 1)) (drop (i + 1) text) (omega (arith, length-drop (i + 1) text))))
     (number_found c.args.mark text i c.loop-i.number c.loop-i.invariant (omega (arith, long, c.loop-i-test.true)) c.if-i-gt0.true (sym e ∙ c.if-byte-mark.true))
+
+pub returns-then-i-gt0-clause-small : goal.returns-then-i-gt0-clause-small
+returns-then-i-gt0-clause-small c =
+    let text = c.args.text.now in
+    let most = c.min.ensures in
+    let long : length (take c.min.result text) ≡ c.min.result = length-take-le c.min.result text (omega arith) in
+    digit_fits c.args.mark text c.loop-i.i c.loop-i.number c.loop-i.invariant (omega (arith, long, c.loop-i-test.true))
 
 pub overflow_mul-number : goal.overflow_mul-number
 overflow_mul-number c =

@@ -1,6 +1,6 @@
 use Rattle.std.proofs.Common.{◌≡◌, ◌+◌, ◌-◌, ◌*◌, get_or, ◌∙◌, arith}
-use Rattle.report_text.proofs.Decimals.{one_more, too_large, all_digits}
-use Rattle.report_text.proofs.decimal.value_of.Goals as goal
+use Rattle.line_base.proofs.WholeNumbers.{one_more, too_large, all_digits}
+use Rattle.line_base.proofs.text.value_of.Goals as goal
 
 pub returns-in_err-checked_mul : goal.returns-in_err-checked_mul
 returns-in_err-checked_mul c = rw c.from_residual.ensures (λ below. too_large c.args.digits.now c.loop-digit.number c.loop-digit.digit-index c.loop-digit.invariant (omega arith) (omega (arith, c.in_err-checked_mul.ensures)) below)
