@@ -1,11 +1,11 @@
 -- Where the next interval leads a reader, and what it stands for then.
---     outside-start, outside-other, is_not      outside a frame
+--     outside-start, outside-other      outside a frame
 --     within-on      in a frame
 --     tooth-none      no rise has a step
 --     stands-fresh, forgotten      a reader that has seen no rise, or has forgotten all
 --     first-pushed      the first rise
 --     later-pushed      one rise more
-use Rattle.std.proofs.Common.{◌≡◌, ℕ, suc, ◌-◌, Bool, true, false, not, IsTrue, nat_eq, Option, None, Some, List, [], ◌∷◌, ◌++◌, refl, sym, ◌∙◌, ap, subst}
+use Rattle.std.proofs.Common.{◌≡◌, ℕ, suc, ◌-◌, Bool, false, nat_eq, Option, None, Some, List, [], ◌∷◌, ◌++◌, refl, sym, ◌∙◌, ap, subst}
 use Rattle.line_base.specs.Readings.{go_on, read_past}
 use Rattle.line_base.proofs.Readers.{goes_on, grows}
 use Rattle.link_math.specs.Periods.{periods_in}
@@ -31,11 +31,6 @@ outside-start form number later = refl
 pub outside-other : (form : Form) (number periods : ℕ) (later : List Interval) → nat_eq periods 6 ≡ false → reading_on form Outside (record { number = number; periods = periods } ∷ later) ≡ reading_on form Outside later
 unfolding reading_on interval_reading read_past found_at
 outside-other form number periods later other = rw other refl
-
--- what isn't true is false
-pub is_not : (test : Bool) → IsTrue (not test) → test ≡ false
-is_not true e = absurd cc
-is_not false e = refl
 
 -- ---- in a frame
 -- what is read behind a frame, of which so many intervals are used up

@@ -39,11 +39,11 @@ fn data_bits(form: Form, down: &Down) -> FrameBits
 }
 
 /// Puts these bits at the end in groups of three, each followed by an inserted 1.
-fn push_groups(bits: &mut ArrayVec<bool, 40>, data: &[bool])
-    requires { 3 * length bits.old.items + 4 * length data.now ≤ 120 }
-    ensures { bits.new.items ≡ bits.old.items ++ with_ones data.now }
+fn push_groups(bits: &mut ArrayVec<bool, 40>, ungrouped: &[bool])
+    requires { 3 * length bits.old.items + 4 * length ungrouped.now ≤ 120 }
+    ensures { bits.new.items ≡ bits.old.items ++ with_ones ungrouped.now }
 {
-    let mut rest = data;
+    let mut rest = ungrouped;
     'groups: while rest.len() >= 3 {
         let (group, others) = rest.split_at(3);
         bits.push(group[0]);

@@ -37,8 +37,8 @@ fn begun(periods: u8) -> State
     }
 }
 
-/// Takes an interval of `periods` sync periods, 0 to 6, in place, where it ends nothing and begins no frame. Answers
-/// whether it does; if not, nothing changes.
+/// Takes an interval of `periods` sync periods, 0 to 6, in place, where it ends nothing. Answers whether it does; if
+/// not, nothing changes.
 #[inline(always)]
 fn keeps_on(form: Form, state: &mut State, periods: u8) -> bool
     requires valid { IsState form state.old }
@@ -49,7 +49,12 @@ fn keeps_on(form: Form, state: &mut State, periods: u8) -> bool
     ensures left { result ≡ false → state.new ≡ state.old }
 {
     match state {
-        State::Outside => periods != START,
+        State::Outside => {
+            if periods == START {
+                *state = State::Within(FrameBits::new());
+            }
+            true
+        }
         State::Within(bits) => goes_on(form, bits, periods),
     }
 }
@@ -134,7 +139,7 @@ impl ToothReader {
     }
 
     /// Takes the next rise as [`push`](Self::push) does, whatever its number is, where it is the first one or ends an
-    /// interval that ends nothing and begins no frame. Answers whether it is; if not, `push` is to take it.
+    /// interval that ends nothing. Answers whether it is; if not, `push` is to take it.
     #[inline(always)]
     pub fn passes(&mut self, time: u64) -> bool
         requires { time ≤ 10 ^ 15 }

@@ -1,5 +1,4 @@
 //! Setups, frames and what an interval comes to at each place of a frame.
-ghost use Rattle.std.specs.Prelude.{◌≤◌, ◌<◌};
 
 mod frames;
 mod setups;

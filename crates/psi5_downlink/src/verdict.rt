@@ -1,5 +1,5 @@
 //! What the bits of a frame come to, as far as they are read.
-ghost use Rattle.std.specs.Prelude.{◌≡◌, ◌<◌, ◌≤◌, ◌^◌, ◌+◌, ◌++◌, ◌-◌, length, replicate, false, IsTrue};
+ghost use Rattle.std.specs.Prelude.{◌≡◌, ◌<◌, ◌≤◌, ◌^◌, ◌+◌, ◌++◌, ◌-◌, length, false, IsTrue};
 ghost use Rattle.link_math.specs.Division.{number_of};
 ghost use Rattle.psi5_downlink.specs.Frames as frames;
 ghost use Rattle.psi5_downlink.specs.Reading as reading;

@@ -1,5 +1,5 @@
 //! A burst that isn't complete yet.
-ghost use Rattle.std.specs.Prelude.{◌≡◌, ◌%◌, ◌+◌, ◌*◌, ◌≤◌, ◌++◌, [], ◌∷◌, List, length, false};
+ghost use Rattle.std.specs.Prelude.{◌≡◌, ◌%◌, ◌+◌, ◌*◌, ◌≤◌, ◌++◌, [], ◌∷◌, List, false};
 ghost use Rattle.psi5_frame.specs.Intervals as intervals;
 ghost use Rattle.psi5_frame.specs.Setup.{bit_count};
 ghost use Rattle.psi5_frame.specs.Edges.{Change};

@@ -1,7 +1,6 @@
 //! The reader of PSI5 bursts.
-ghost use Rattle.std.specs.Prelude.{IsTrue, false, ◌≡◌, ◌^◌, ◌≤◌, ◌++◌, [], ◌∷◌, List, ℕ, if◌then◌else◌, option_to_list};
+ghost use Rattle.std.specs.Prelude.{IsTrue, false, ◌≡◌, ◌^◌, ◌≤◌, ◌++◌, [], ◌∷◌, List, if◌then◌else◌, option_to_list};
 ghost use Rattle.line_base.specs.Edges.{NumberedEdge};
-ghost use Rattle.link_math.specs.Manchester.{halves_in};
 ghost use Rattle.psi5_frame.specs.Intervals as intervals;
 ghost use Rattle.psi5_frame.specs.Setup.{Settings, bit_count};
 ghost use Rattle.psi5_frame.specs.Edges.{Change};

@@ -1,7 +1,6 @@
 //! The reader of an initialisation phase.
 ghost use Rattle.std.specs.Prelude.{◌≡◌, ◌+◌, ◌<◌, ◌≤◌, ◌^◌, ◌++◌, [], ◌∷◌, List, length, ℕ};
 ghost use Rattle.psi5_init.specs.Standings as standings;
-ghost use Rattle.psi5_init.specs.Standings.{Led};
 ghost use Rattle.psi5_init.specs.Readings.{init_reading};
 ghost use Rattle.psi5_init.specs.Kept.{IsState, block_of, blocks_in, standing_of};
 

@@ -15,4 +15,4 @@ mod tests;
 pub use meaning::places_have_meaning;
 pub use placed::Placed;
 pub use reader::SlotReader;
-pub use setup::SlotSetup;
+pub use setup::{SlotSetup, last_high};

@@ -1,5 +1,5 @@
 //! Places of bursts behind sync pulses, one at a time.
-ghost use Rattle.std.specs.Prelude.{◌≡◌, ◌<◌, ◌≤◌, ◌++◌, [], ◌∷◌, ℕ, List, IfSome, length};
+ghost use Rattle.std.specs.Prelude.{◌≡◌, ◌<◌, ◌++◌, [], ◌∷◌, ℕ, List, IfSome, length};
 ghost use Rattle.psi5_slots.specs.declared.placed.Placed.TheVariants.{Slot};
 ghost use Rattle.psi5_slots.specs.Setup.{Settings, InRange};
 ghost use Rattle.psi5_slots.specs.History.{Event, has_sync, placed_behind, placed_in};

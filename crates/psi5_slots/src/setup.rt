@@ -62,8 +62,8 @@ fn are_apart(frame: &Psi5Setup, before: Span, windows: &[Span]) -> bool
     true
 }
 
-/// The greatest offset of the last of these windows, or `high` where there is none.
-pub(crate) fn last_high(high: u32, windows: &[Span]) -> u32
+/// The greatest offset in ns of the last of these windows, or `high` where there is none.
+pub fn last_high(high: u32, windows: &[Span]) -> u32
     ensures { result ≡ last_high high windows.now }
 {
     let mut last = high;

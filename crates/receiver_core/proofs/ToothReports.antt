@@ -112,11 +112,6 @@ pub tooth-read : (s : Settings) (old : ToothChannel) (seen : List NumberedEdge) 
 unfolding tooth_so_far
 tooth-read s old seen e reports before some rises grows = ap (λ l. flat_map down_report (tooth_reading s l)) (rises-risen seen e (sym before.opened ∙ some) rises) ∙ grows
 
-pub tooth-rise : (s : Settings) (old : ToothChannel) (seen : List NumberedEdge) (e : NumberedEdge) (step : ToothStep) (reports : List Report) → StandsForRises s old seen → old.opened ≡ true → e.edge.level ≡ true
-    → tooth_reading s (rises_of seen ++ record { number = e.number; time = e.edge.time } ∷ []) ≡ tooth_reading s (rises_of seen) ++ steps_of step → reports ≡ down_report step
-    → tooth_so_far s (seen ++ e ∷ []) ≡ tooth_so_far s seen ++ reports
-tooth-rise s old seen e step reports before some rises grows are = tooth-read s old seen e reports before some rises (read-rise s (rises_of seen) _ step reports grows are)
-
 rises-front : (seen more : List NumberedEdge) → IsFrontOf (rises_of seen) (rises_of (seen ++ more))
 rises-front [] more = record { rest = rises_of more; is = refl }
 rises-front (x ∷ seen) more = record { rest = flat_map rise_at more; is = flat_map-append rise_at seen more }

@@ -20,6 +20,13 @@ nibbles_fit layout.Two12 nibbles = nibbles == 6
 nibbles_fit layout.Secure12 nibbles = nibbles == 6
 nibbles_fit layout.Split16x8 nibbles = nibbles == 6
 
+-- the line of a channel of this setup, its data line where it has a sync line too
+abbrev pub line_of_setup : ChannelSetup → ℕ
+line_of_setup (Sent line setup layout serial) = line
+line_of_setup (Psi5 line setup slots init) = line
+line_of_setup (Spc line setup) = line
+line_of_setup (Tooth line setup) = line
+
 -- a channel of this setup reads the line
 abbrev pub reads_line : ChannelSetup → ℕ → Bool
 reads_line (Sent line setup layout serial) number = nat_eq number line

@@ -294,7 +294,9 @@ impl Psi5Channel {
         if self.bursts.passes(number, edge) {
             return;
         }
-        self.read(number, edge, reports);
+        // The call gets an edge of its own, so that one that is passed is never put in memory.
+        let Edge { line, time, level } = edge;
+        self.read(number, Edge { line, time, level }, reports);
     }
 
     /// The same for an edge of the data line that may end a burst and begin another.

@@ -82,13 +82,11 @@ impl Link {
         ensures grows { (setup : ChannelSetup) (stretch : Option (List NumberedEdge)) → LinkStandsFor setup self.old stretch
             → resumed setup number stretch (Item.Edge edge ∷ []) ≡ resumed setup number stretch [] ++ reports.new.items }
     {
-        // Each link gets an edge of its own, so that none has to be kept in memory.
-        let Edge { line, time, level } = edge;
         match self {
-            Link::Sent(channel) => channel.push(number, Edge { line, time, level }, reports),
-            Link::Psi5(channel) => channel.push(number, Edge { line, time, level }, reports),
-            Link::Spc(channel) => channel.push(number, Edge { line, time, level }, reports),
-            Link::Tooth(channel) => channel.push(number, Edge { line, time, level }, reports),
+            Link::Sent(channel) => channel.push(number, edge, reports),
+            Link::Psi5(channel) => channel.push(number, edge, reports),
+            Link::Spc(channel) => channel.push(number, edge, reports),
+            Link::Tooth(channel) => channel.push(number, edge, reports),
             Link::Ended => {}
         }
     }

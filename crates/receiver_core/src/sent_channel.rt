@@ -182,7 +182,9 @@ impl SentChannel {
         if self.reader.passes(edge) {
             return;
         }
-        self.read(number, edge, reports);
+        // The call gets an edge of its own, so that one that is passed is never put in memory.
+        let Edge { line, time, level } = edge;
+        self.read(number, Edge { line, time, level }, reports);
     }
 
     /// The same for an edge that may end a frame or violate a rule.

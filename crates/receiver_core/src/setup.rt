@@ -1,6 +1,6 @@
 //! What a channel is set up with.
 ghost use Rattle.std.specs.Prelude.{◌≡◌};
-ghost use Rattle.receiver_core.specs.Setups.{high_line_fault, setup_fault_of, reads_line, nibbles_fit, same_check, same_parts, same_setup, are_wrong_lines, are_other_slots, are_wrong_repeats};
+ghost use Rattle.receiver_core.specs.Setups.{high_line_fault, setup_fault_of, line_of_setup, reads_line, nibbles_fit, same_check, same_parts, same_setup, are_wrong_lines, are_other_slots, are_wrong_repeats};
 
 use line_base::SetupFault;
 use psi5_downlink::ToothSetup;
@@ -210,19 +210,33 @@ impl ChannelSetup {
         }
     }
 
+    /// The line of the channel, 0 to 15: the data line where there is a sync line too.
+    #[inline(always)]
+    fn line(&self) -> u8
+        ensures { result ≡ line_of_setup self.now }
+    {
+        match self {
+            ChannelSetup::Sent { line, .. }
+            | ChannelSetup::Psi5 { line, .. }
+            | ChannelSetup::Spc { line, .. }
+            | ChannelSetup::Tooth { line, .. } => *line,
+        }
+    }
+
     /// Whether the channel reads this line.
     #[inline(always)]
     pub fn reads(&self, number: u8) -> bool
         ensures { result ≡ reads_line self.now number }
     {
+        if number == self.line() {
+            return true;
+        }
         match self {
-            ChannelSetup::Sent { line, .. } => number == *line,
-            ChannelSetup::Psi5 { line, slots, .. } => match slots {
-                None => number == *line,
-                Some(slots) => number == *line || number == slots.line,
-            },
-            ChannelSetup::Spc { line, .. } => number == *line,
-            ChannelSetup::Tooth { line, .. } => number == *line,
+            ChannelSetup::Psi5 {
+                slots: Some(slots),
+                ..
+            } => number == slots.line,
+            _ => false,
         }
     }
 }

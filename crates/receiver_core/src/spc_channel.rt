@@ -52,7 +52,7 @@ impl SpcChannel {
 
     /// Takes the next edge of the line, with its number in the channel, and adds the report of what it decides
     /// to none. Its time is at most 10^15 ns.
-    #[inline]
+    #[inline(always)]
     pub fn push(&mut self, number: u64, edge: Edge, reports: &mut ArrayVec<Report, 8>)
         requires in_range { edge.time ≤ 10 ^ 15 }
         requires empty { reports.old.items ≡ [] }
@@ -60,7 +60,9 @@ impl SpcChannel {
         ensures grows { (s : Settings) (seen : List NumberedEdge) → StandsForAnswers s self.old seen
             → spc_so_far s (seen ++ record { number = number; edge = edge } ∷ []) ≡ spc_so_far s seen ++ reports.new.items }
     {
-        let step = self.reader.push(number, edge);
+        // The call gets an edge of its own, so that those of other links are never put in memory.
+        let Edge { line, time, level } = edge;
+        let step = self.reader.push(number, Edge { line, time, level });
         push_step(step, reports);
     }
 

@@ -53,6 +53,20 @@ fn read(reader: &mut ToothReader, number: u64, time: u64, reports: &mut ArrayVec
     push_step(step, reports);
 }
 
+/// Takes the next rise of the line, most of which end nothing: these are taken in place.
+#[inline(never)]
+fn take_rise(reader: &mut ToothReader, number: u64, time: u64, reports: &mut ArrayVec<Report, 8>)
+    requires in_range { time ≤ 10 ^ 15 }
+    requires empty { reports.old.items ≡ [] }
+    ensures stands { (s : Settings) (seen : List Rise) → StandsFor s reader.old seen → StandsFor s reader.new (seen ++ record { number = number; time = time } ∷ []) }
+    ensures grows { (s : Settings) (seen : List Rise) → StandsFor s reader.old seen
+        → flat_map down_report (tooth_reading s (seen ++ record { number = number; time = time } ∷ [])) ≡ flat_map down_report (tooth_reading s seen) ++ reports.new.items }
+{
+    if !reader.passes(time) {
+        read(reader, number, time, reports);
+    }
+}
+
 impl ToothChannel {
     ghost use Rattle.receiver_core.specs.ToothReports.{StandsForRises};
 
@@ -83,10 +97,7 @@ impl ToothChannel {
         if !edge.level {
             return;
         }
-        if self.reader.passes(edge.time) {
-            return;
-        }
-        read(&mut self.reader, number, edge.time, reports);
+        take_rise(&mut self.reader, number, edge.time, reports);
     }
 
     /// Forgets all edges: the next one is an opening.

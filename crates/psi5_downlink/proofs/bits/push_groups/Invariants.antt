@@ -5,7 +5,7 @@ use Rattle.psi5_downlink.proofs.bits.push_groups.Given as goal
 
 abbrev pub invariant-groups : goal.invariant-groups
 invariant-groups l = record {
-  bits : l.bits.items ++ with_ones l.rest ≡ l.fn.bits.items ++ with_ones l.data;
+  bits : l.bits.items ++ with_ones l.rest ≡ l.fn.bits.items ++ with_ones l.ungrouped;
   room : 3 * length l.bits.items + 4 * length l.rest ≤ 120;
 }
 

@@ -1,5 +1,5 @@
 -- An interval that leaves a frame unfinished.
-use Rattle.std.proofs.Common.{length, refl, sym, ap, subst, arith}
+use Rattle.std.proofs.Common.{refl, subst, arith}
 use Rattle.psi5_downlink.specs.Kept.{MayGoOn}
 use Rattle.psi5_downlink.proofs.Judging.{open-more, verdict-unfinished}
 use Rattle.psi5_downlink.proofs.verdict.goes_on.Goals as goal

@@ -1,5 +1,5 @@
 -- The first rise, and a later one that ends nothing.
-use Rattle.std.proofs.Common.{◌∙◌, [], append-nil, refl}
+use Rattle.std.proofs.Common.{◌∙◌, [], append-nil}
 use Rattle.psi5_downlink.specs.Reading.{tooth_reading}
 use Rattle.psi5_downlink.proofs.Leading.{first-pushed, later-pushed}
 use Rattle.psi5_downlink.proofs.reader.ToothReader.passes.Goals as goal

@@ -1,11 +1,11 @@
 -- Each kind of item adds what its link answers, and the edges that it counts.
-use Rattle.std.proofs.Common.{◌+◌, [], sym, ap, subst, add-zero, refl, arith}
+use Rattle.std.proofs.Common.{◌+◌, [], sym, ap, subst, add-zero, arith}
 use Rattle.line_base.specs.declared.edge.Item.{Item}
 use Rattle.receiver_core.specs.Channels.{edges_counted}
 use Rattle.receiver_core.specs.Readers.{IsTakeable}
 use Rattle.receiver_core.proofs.OpenStretches.{open-few}
 use Rattle.receiver_core.specs.OpenStretches.{open_stretch}
-use Rattle.receiver_core.proofs.Links.{receiver-more, receiver-grows, no-more, few-edge, few-gap}
+use Rattle.receiver_core.proofs.Links.{receiver-more, receiver-grows, no-more, few-gap}
 use Rattle.line_base.specs.declared.edge.Item.TheVariants as item
 use Rattle.receiver_core.proofs.receiver.Receiver.push_into.Goals as goal
 

@@ -1,10 +1,6 @@
--- The opening, a fall and a rise that is passed add nothing, and another rise adds the report of its step.
-use Rattle.std.proofs.Common.{sym, ◌∙◌, subst, append-nil}
-use Rattle.psi5_downlink.specs.declared.step.ToothStep.TheVariants.{Nothing}
-use Rattle.psi5_downlink.specs.Reading.{tooth_reading}
-use Rattle.psi5_downlink.specs.Readers.{StandsFor}
+-- The opening and a fall add nothing, and a rise adds the report of its step.
 use Rattle.receiver_core.specs.ToothReports.{rises_of}
-use Rattle.receiver_core.proofs.ToothReports.{rises-open, rises-fall, rises-rise, tooth-open, tooth-fall, tooth-read, tooth-rise, level-low, level-high}
+use Rattle.receiver_core.proofs.ToothReports.{rises-open, rises-fall, rises-rise, tooth-open, tooth-fall, tooth-read, level-low, level-high}
 use Rattle.receiver_core.proofs.tooth_channel.ToothChannel.push.Goals as goal
 
 pub returns-then-not-self-clause-stands : goal.returns-then-not-self-clause-stands
@@ -20,22 +16,12 @@ pub returns-then-not-edge-clause-grows : goal.returns-then-not-edge-clause-grows
 returns-then-not-edge-clause-grows c = λ s seen before.
     tooth-fall s c.args.self.now seen (record { number = c.args.number; edge = c.args.edge }) c.args.reports.now.items before c.if-not-self.false (level-low c.args.edge.level c.if-not-edge.true) c.requires.empty
 
-pub returns-then-passes-clause-stands : goal.returns-then-passes-clause-stands
-returns-then-passes-clause-stands c = λ s seen before.
-    rises-rise s c.args.self.now seen (record { number = c.args.number; edge = c.args.edge }) c.passes.new.self before c.if-not-self.false (level-high c.args.edge.level c.if-not-edge.false)
-    (c.passes.ensures.stands c.if-passes.true s (rises_of seen) c.args.number before.reads)
-
-pub returns-then-passes-clause-grows : goal.returns-then-passes-clause-grows
-returns-then-passes-clause-grows c = λ s seen before.
-    tooth-rise s c.args.self.now seen (record { number = c.args.number; edge = c.args.edge }) Nothing c.args.reports.now.items before c.if-not-self.false (level-high c.args.edge.level c.if-not-edge.false)
-    (c.passes.ensures.quiet c.if-passes.true s (rises_of seen) c.args.number before.reads ∙ sym (append-nil (tooth_reading s (rises_of seen)))) c.requires.empty
-
 pub returns-clause-stands : goal.returns-clause-stands
 returns-clause-stands c = λ s seen before.
-    rises-rise s c.args.self.now seen (record { number = c.args.number; edge = c.args.edge }) c.read.new.reader before c.if-not-self.false (level-high c.args.edge.level c.if-not-edge.false)
-    (c.read.ensures.stands s (rises_of seen) (subst (λ r. StandsFor s r (rises_of seen)) (sym (c.passes.ensures.left c.if-passes.false)) before.reads))
+    rises-rise s c.args.self.now seen (record { number = c.args.number; edge = c.args.edge }) c.take_rise.new.reader before c.if-not-self.false (level-high c.args.edge.level c.if-not-edge.false)
+    (c.take_rise.ensures.stands s (rises_of seen) before.reads)
 
 pub returns-clause-grows : goal.returns-clause-grows
 returns-clause-grows c = λ s seen before.
-    tooth-read s c.args.self.now seen (record { number = c.args.number; edge = c.args.edge }) c.read.new.reports.items before c.if-not-self.false (level-high c.args.edge.level c.if-not-edge.false)
-    (c.read.ensures.grows s (rises_of seen) (subst (λ r. StandsFor s r (rises_of seen)) (sym (c.passes.ensures.left c.if-passes.false)) before.reads))
+    tooth-read s c.args.self.now seen (record { number = c.args.number; edge = c.args.edge }) c.take_rise.new.reports.items before c.if-not-self.false (level-high c.args.edge.level c.if-not-edge.false)
+    (c.take_rise.ensures.grows s (rises_of seen) before.reads)
