@@ -2,12 +2,11 @@
 use Rattle.std.proofs.Common.{◌≡◌, ℕ, List, [], ◌++◌, Option, None, Some, refl, ap, sym, subst, ◌∙◌, append_assoc, append-nil, arith, IfSome, ◌+◌, ◌<◌, ◌^◌, ◌≤◌, length, length-append}
 use Rattle.std.specs.Io.KnownBytes.{Appends, Consumes, Keeps, IsAtEnd}
 use Rattle.std.proofs.KnownBytes.{Appends-nil, Appends-trans, Consumes-nil, Consumes-trans}
-use Rattle.line_base.specs.Streams.{IsFrontOf, AppendsFront}
 use Rattle.line_base.proofs.Fronts.{IsFrontOf-trans}
 use Rattle.line_base.specs.declared.reason.Reason.{Reason}
 use Rattle.line_base.specs.declared.reason.Reason.TheVariants as reason
 use Rattle.command_base.specs.Tasks.{Task, IsSteady}
-use Rattle.command_base.specs.Grown.{GrowsAlong, GrowsTowards}
+use Rattle.command_base.specs.Grown.{GrowsAlong}
 use Rattle.command_base.specs.Parts.{Stopped, Finished}
 use Rattle.command_base.specs.Ended.{HasReadTo, Ended}
 use Rattle.command_base.proofs.Growing.{grows-twice, grows-cut, cut-longer, written-behind, cut-behind, front-longer}

@@ -6,9 +6,6 @@ use std::alloc::{AllocError, Global};
 /// How many bytes are pulled at once.
 pub const READ_SIZE: usize = 4_096;
 
-/// How many pulls that give a byte there are at most: byte number 2^36 ends an input.
-pub const MAX_PULLS: u64 = 68_719_476_736;
-
 /// A buffer for pulls, of 4,096 bytes, or the error where there is no such memory.
 pub fn read_buffer(alloc: Global) -> Result<Vec<u8>, AllocError>
     ensures { IfOk result (λ buffer. vec_len buffer ≡ 4096) }

@@ -1,10 +1,12 @@
 -- Laws of edge lists that the runs over them need.
-use Rattle.std.proofs.Common.{◌≡◌, ◌<◌, ◌^◌, ℕ, List, [], ◌∷◌, ◌++◌, None, Some, Result, Err, length, refl, ap, sym, subst, ◌∙◌, arith}
+use Rattle.std.proofs.Common.{◌≡◌, ◌<◌, ◌^◌, ℕ, List, [], ◌∷◌, ◌++◌, None, Some, Result, Err, length, filter_map, flat_map, refl, ap, sym, subst, ◌∙◌, arith}
+use Rattle.std.specs.Result.{result_ok}
 use Rattle.line_base.specs.declared.edge.Edge.{Edge}
 use Rattle.line_base.specs.declared.faults.LineFault.{LineFault}
 use Rattle.line_base.specs.Streams.{IsFrontOf}
-use Rattle.line_base.proofs.Fronts.{IsFrontOf-trans}
-use Rattle.edge_trace.specs.Limits.{input_limit, edges_of, fault_in, fault_of, answers_of, whole_edges_of, whole_fault_of, whole_answers_of, line_number_of}
+use Rattle.edge_trace.specs.EdgeLists.{Told}
+use Rattle.edge_trace.specs.Limits.{rows_of, edges_of, fault_in, fault_of, answers_of, whole_rows_of, whole_edges_of, whole_fault_of, whole_answers_of, line_number_of}
+use Rattle.text_lines.specs.Inputs.{input_limit}
 use Rattle.edge_trace.proofs.Laws.{whole_stays}
 use Rattle.edge_trace.proofs.Growth.{answers_grow, fault_holds, nothing_behind_a_fault, no_answers, whole_grows, whole_fault_line, open_without_fault}
 use Rattle.edge_command.proofs.Answers.{edges_in, edges_in-append, edges_of-answers, whole_edges_of-answers, fault_among, some-whole_fault, sound-none}
@@ -14,15 +16,18 @@ pub fault-stays : (bytes more : List ℕ) (fault : ℕ × LineFault) → fault_o
 fault-stays bytes more fault e = fault_holds bytes more fault e
 
 -- a fault stays at the end of the input
-pub whole_fault-stays : (bytes more : List ℕ) (fault : ℕ × LineFault) → fault_of bytes ≡ Some fault → whole_fault_of (bytes ++ more) ≡ Some fault
+pub whole_fault-stays : (bytes : List ℕ) (fault : ℕ × LineFault) → fault_of bytes ≡ Some fault → whole_fault_of bytes ≡ Some fault
 unfolding whole_fault_of fault_of
-whole_fault-stays bytes more fault e =
-    let later = fault-stays bytes more fault e in
-    ap fault_in (whole_stays (bytes ++ more) fault later) ∙ later
+whole_fault-stays bytes fault e = ap fault_in (whole_stays bytes fault e) ∙ e
 
 -- behind a fault no edge comes
 pub edges-stay : (bytes more : List ℕ) (fault : ℕ × LineFault) → fault_of bytes ≡ Some fault → edges_of (bytes ++ more) ≡ edges_of bytes
 edges-stay bytes more fault e = edges_of-answers (bytes ++ more) ∙ ap edges_in (nothing_behind_a_fault bytes more fault e) ∙ sym (edges_of-answers bytes)
+
+-- nor at the end of the input
+pub whole_edges-stay : (bytes : List ℕ) (fault : ℕ × LineFault) → fault_of bytes ≡ Some fault → whole_edges_of bytes ≡ edges_of bytes
+unfolding whole_edges_of whole_rows_of edges_of rows_of
+whole_edges-stay bytes fault e = ap (λ (told : List Told). flat_map (λ row. row) (filter_map (λ t. result_ok t.1) told)) (whole_stays bytes fault e)
 
 front_of_edges : (answers later : List (Result (List Edge) LineFault)) → IsFrontOf answers later → IsFrontOf (edges_in answers) (edges_in later)
 front_of_edges answers later front = record { rest = edges_in front.rest; is = ap edges_in front.is ∙ edges_in-append answers front.rest }
@@ -37,10 +42,10 @@ edges-front bytes more =
     (front_of_edges (answers_of bytes) (answers_of (bytes ++ more)) (answers_grow bytes more))
 
 -- and of those of the whole input
-pub whole_edges-front : (bytes more : List ℕ) → IsFrontOf (edges_of bytes) (whole_edges_of (bytes ++ more))
-whole_edges-front bytes more =
-    along (edges_of bytes) (edges_in (answers_of bytes)) (whole_edges_of (bytes ++ more)) (edges_in (whole_answers_of (bytes ++ more))) (edges_of-answers bytes) (whole_edges_of-answers (bytes ++ more))
-    (front_of_edges (answers_of bytes) (whole_answers_of (bytes ++ more)) (IsFrontOf-trans (answers_grow bytes more) (whole_grows (bytes ++ more))))
+pub whole_edges-front : (bytes : List ℕ) → IsFrontOf (edges_of bytes) (whole_edges_of bytes)
+whole_edges-front bytes =
+    along (edges_of bytes) (edges_in (answers_of bytes)) (whole_edges_of bytes) (edges_in (whole_answers_of bytes)) (edges_of-answers bytes) (whole_edges_of-answers bytes)
+    (front_of_edges (answers_of bytes) (whole_answers_of bytes) (whole_grows bytes))
 
 -- a fault of the last line has that line's number
 pub whole-fault : (bytes : List ℕ) (fault : LineFault) → fault_of bytes ≡ None → whole_answers_of bytes ≡ answers_of bytes ++ Err fault ∷ [] → whole_fault_of bytes ≡ Some (line_number_of bytes, fault)

@@ -1,10 +1,11 @@
 -- What was written of some edges stays when more come.
-use Rattle.std.proofs.Common.{◌≡◌, ℕ, Bool, true, false, cond, None, is_some, List, [], ◌∷◌, ◌++◌, refl, ap, sym, subst, ◌∙◌, append_assoc, append-nil}
+use Rattle.std.proofs.Common.{◌≡◌, ℕ, Bool, true, false, cond, None, Some, is_some, List, [], ◌∷◌, ◌++◌, refl, ap, sym, subst, ◌∙◌, append_assoc, append-nil}
 use Rattle.line_base.specs.Streams.{IsFrontOf}
 use Rattle.line_base.proofs.Fronts.{IsFrontOf-trans}
 use Rattle.line_base.specs.declared.edge.Edge.{Edge}
+use Rattle.line_base.specs.declared.faults.LineFault.{LineFault}
 use Rattle.receiver_core.specs.declared.setup.ChannelSetup.{ChannelSetup}
-use Rattle.edge_trace.specs.Limits.{whole_edges_of, whole_fault_of}
+use Rattle.edge_trace.specs.Limits.{edges_of, whole_edges_of, whole_fault_of}
 use Rattle.edge_command.specs.Channels.{Decoding, edge_lines, lines_behind, told_lines, end_lines, total_lines, text_so_far, whole_text, text_of}
 use Rattle.edge_command.proofs.Writing.{told-then}
 
@@ -62,3 +63,9 @@ input-front decoding bytes edges more e =
 pub input-sound : (decoding : Decoding) (bytes : List ℕ) → whole_fault_of bytes ≡ None → whole_text decoding (whole_edges_of bytes) ≡ text_of decoding bytes
 unfolding text_of
 input-sound decoding bytes sound = ap (λ fault. cond (is_some fault) (text_so_far decoding (whole_edges_of bytes)) (whole_text decoding (whole_edges_of bytes))) (sym sound)
+
+-- with a fault behind which no edge comes it is the text so far
+pub input-refused : (decoding : Decoding) (bytes : List ℕ) (fault : ℕ × LineFault) → whole_fault_of bytes ≡ Some fault → whole_edges_of bytes ≡ edges_of bytes → text_of decoding bytes ≡ text_so_far decoding (edges_of bytes)
+unfolding text_of
+input-refused decoding bytes fault found none =
+    ap (λ fault. cond (is_some fault) (text_so_far decoding (whole_edges_of bytes)) (whole_text decoding (whole_edges_of bytes))) found ∙ ap (text_so_far decoding) none

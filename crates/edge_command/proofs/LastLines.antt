@@ -42,9 +42,11 @@ pub last_row-cut : (decoding : Decoding) (a : Written) (b : Option (List ℕ)) (
 last_row-cut decoding a b bytes row grows cut =
     subst (λ (es : List Edge). GrowsTowards a b (text_so_far decoding (edges_of bytes)) (text_so_far decoding es)) (sym (last_row-edges bytes row grows)) cut
 
--- the last line is refused
-pub last_line-refused : (bytes : List ℕ) (number : ℕ) (fault : LineFault) → fault_of bytes ≡ None → whole_answers_of bytes ≡ answers_of bytes ++ Err fault ∷ [] → number ≡ line_number_of bytes → whole_fault_of bytes ≡ Some (number, fault)
-last_line-refused bytes number fault sound grows numbered = whole-fault bytes fault sound grows ∙ ap (λ (n : ℕ). Some (n, fault)) (sym numbered)
+-- the last line is refused, and adds no edge
+pub last_line-refused : (bytes : List ℕ) (number : ℕ) (fault : LineFault) → fault_of bytes ≡ None → whole_answers_of bytes ≡ answers_of bytes ++ Err fault ∷ [] → number ≡ line_number_of bytes
+    → (whole_fault_of bytes ≡ Some (number, fault)) × (whole_edges_of bytes ≡ edges_of bytes)
+last_line-refused bytes number fault sound grows numbered =
+    (whole-fault bytes fault sound grows ∙ ap (λ (n : ℕ). Some (n, fault)) (sym numbered), whole_edges-more bytes (Err fault ∷ []) grows ∙ append-nil (edges_of bytes))
 
 -- there is room for the last row's edges
 pub last_row-room : (bytes : List ℕ) (row : List Edge) → whole_answers_of bytes ≡ answers_of bytes ++ Ok row ∷ [] → length (edges_of bytes) + length row < 2 ^ 60

@@ -3,6 +3,7 @@ pub mod Counting
 pub mod OneMore
 pub mod Writing
 pub mod Taking
+pub mod Passing
 pub mod Rows
 pub mod EdgeLists
 pub mod TakeBytes
@@ -12,4 +13,4 @@ pub mod Tellings
 pub mod Traces
 pub mod Runs
 pub mod Blocks
-pub mod Pulls
+pub mod Steady

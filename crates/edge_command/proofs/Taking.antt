@@ -112,7 +112,8 @@ pub record MadeSoFar (setups rest : List ChannelSetup) (channels : List Channel)
   pub sound : All (λ setup. setup_fault_of setup ≡ None) rest
   pub follow : AllFollow channels []
 
-all-follow-append : (channels more : List Channel) (edges : List Edge) → AllFollow channels edges → AllFollow more edges → AllFollow (channels ++ more) edges
+-- channels in two parts
+pub all-follow-append : (channels more : List Channel) (edges : List Edge) → AllFollow channels edges → AllFollow more edges → AllFollow (channels ++ more) edges
 all-follow-append [] more edges first second = second
 all-follow-append (channel ∷ channels) more edges first second = (first.0, all-follow-append channels more edges first.1 second)
 

@@ -1,20 +1,19 @@
 -- The text is the lines of what is told of the channels, and what is told of each is its reports.
 --     behind-lines, behind-told      what edges tell
 --     text-is-told, whole-is-told    the text so far, and the whole text
-use Rattle.std.proofs.Common.{◌≡◌, ℕ, zero, suc, ◌+◌, ◌<◌, ◌≤◌, Bool, true, false, nat_eq, cond, Option, Some, List, [], ◌∷◌, ◌++◌, length, drop, filter, flat_map, map, refl, sym, ap, ap₂, subst, ◌∙◌, arith, append_assoc, append-nil}
+use Rattle.std.proofs.Common.{◌≡◌, ℕ, zero, suc, ◌+◌, ◌<◌, Bool, true, false, nat_eq, Some, List, [], ◌∷◌, ◌++◌, length, drop, filter, map, refl, sym, ap, ap₂, subst, ◌∙◌, arith, append_assoc, append-nil}
 use Rattle.std.specs.List.{slice_get}
 use Rattle.std.proofs.Math.Seq.{drop-append_seam}
 use Rattle.std.proofs.lemmas.Bool.{eq-eqb, ne_eqb}
 use Rattle.std.proofs.lemmas.Grind.{flat_map-append}
-use Rattle.std.proofs.lemmas.List.{length-append, map-append}
+use Rattle.std.proofs.lemmas.List.{map-append}
 use Rattle.std.proofs.lemmas.List.Elements.{filter-append}
 use Rattle.line_base.specs.Streams.{IsFrontOf}
 use Rattle.line_base.specs.declared.edge.Edge.{Edge}
-use Rattle.line_base.specs.declared.edge.Item.{Item}
 use Rattle.line_base.specs.declared.edge.Item.TheVariants as item
 use Rattle.receiver_core.specs.declared.report.Report.{Report}
 use Rattle.receiver_core.specs.declared.setup.ChannelSetup.{ChannelSetup}
-use Rattle.receiver_core.specs.Channels.{so_far, final}
+use Rattle.receiver_core.specs.Channels.{so_far}
 use Rattle.receiver_core.specs.Tallies.{tally_of}
 use Rattle.receiver_core.proofs.ReportFronts.{final-front, so_far-front, so_far-none}
 use Rattle.edge_command.specs.Channels.{Decoding, is_on, items_on, reports_on, final_on, reports_added, reports_of_end, report_line, total_line, lines_of, edge_lines, lines_behind, end_lines, total_lines, told_lines, text_so_far, whole_text}

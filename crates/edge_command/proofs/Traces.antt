@@ -1,9 +1,9 @@
 -- A run that ended so has told of honest traces their messages.
 --     told-traces      by how it ended
 --     told-of-run      of accepted words
-use Rattle.std.proofs.Common.{◌≡◌, ℕ, Bool, true, false, Option, None, Some, is_some, IfSome, Result, Ok, Err, IfOk, cond, List, ◌++◌, refl, sym, ap, subst, ◌∙◌}
-use Rattle.std.specs.List.{slice_get}
-use Rattle.line_base.specs.Streams.{AppendsFront, IsFrontOf}
+use Rattle.std.proofs.Common.{◌≡◌, ℕ, true, false, Option, None, Some, is_some, IfSome, Result, Ok, Err, IfOk, cond, List, ◌++◌, sym, subst, ◌∙◌}
+use Rattle.line_base.specs.Streams.{IsFrontOf}
+use Rattle.command_base.specs.Ended.{Ended}
 use Rattle.line_base.specs.declared.edge.Edge.{Edge}
 use Rattle.line_base.specs.declared.faults.LineFault.{LineFault}
 use Rattle.line_base.specs.declared.reason.Reason.{Reason}
@@ -12,12 +12,10 @@ use Rattle.edge_trace.specs.Limits.{edges_of, whole_edges_of, whole_fault_of}
 use Rattle.receiver_core.specs.declared.setup.ChannelSetup.{ChannelSetup}
 use Rattle.receiver_core.specs.Traces.{from_first}
 use Rattle.receiver_core.proofs.Traces.{honest-final, honest-front}
-use Rattle.edge_command.specs.Channels.{Decoding, items_on, reports_on, final_on, text_so_far, whole_text, text_of}
-use Rattle.edge_command.specs.Tellings.{told_of}
+use Rattle.edge_command.specs.Channels.{Decoding, decoding_task, items_on, reports_on, final_on, text_so_far, whole_text, text_of}
 use Rattle.edge_command.specs.Traces.{edges_on, TellsMessages, TellsFronts, IsWholeText, IsTextSoFar, IsInputText, ToldTraces}
 use Rattle.link_words.specs.declared.command.Command.{Command}
 use Rattle.link_words.specs.declared.command.Command.TheVariants.{Decode, Check, Simulate, Loop}
-use Rattle.edge_command.specs.Ended.{Ended}
 use Rattle.edge_command.specs.Ends.{CommandEnded, CommandTold}
 use Rattle.edge_command.proofs.Tellings.{final-told, final_tells, so_far-told, so_far_tells, text-is-told, whole-is-told}
 
@@ -45,11 +43,14 @@ input_text : (decoding : Decoding) (bytes : List ℕ) → IsInputText (whole_fau
 unfolding text_of
 input_text decoding bytes = input decoding (whole_edges_of bytes) (whole_fault_of bytes)
 
-pub told-traces : (decoding : Decoding) (why : Reason) (bytes : List ℕ) (left' got got' : Option (List ℕ)) → Ended decoding why bytes left' got got' → ToldTraces decoding why bytes got got'
+input_by : (decoding : Decoding) (bytes : List ℕ) (fault : Option (ℕ × LineFault)) → whole_fault_of bytes ≡ fault → IsInputText fault decoding (whole_edges_of bytes) (text_of decoding bytes)
+input_by decoding bytes fault is = subst (λ (f : Option (ℕ × LineFault)). IsInputText f decoding (whole_edges_of bytes) (text_of decoding bytes)) is (input_text decoding bytes)
+
+pub told-traces : (decoding : Decoding) (why : Reason) (bytes : List ℕ) (left' got got' : Option (List ℕ)) → Ended (decoding_task decoding) why bytes left' got got' → ToldTraces decoding why bytes got got'
 unfolding Ended ToldTraces
-told-traces decoding reason.Clean bytes left' got got' ended = (whole_text decoding (whole_edges_of bytes), ended.3, whole decoding (whole_edges_of bytes))
-told-traces decoding reason.Marked bytes left' got got' ended = (whole_text decoding (whole_edges_of bytes), ended.3, whole decoding (whole_edges_of bytes))
-told-traces decoding (reason.Input number fault) bytes left' got got' ended = (text_so_far decoding (edges_of bytes), ended.1, so_far decoding (edges_of bytes))
+told-traces decoding reason.Clean bytes left' got got' ended = (text_of decoding bytes, ended.3, input_by decoding bytes None ended.1)
+told-traces decoding reason.Marked bytes left' got got' ended = (text_of decoding bytes, ended.3, input_by decoding bytes None ended.1)
+told-traces decoding (reason.Input number fault) bytes left' got got' ended = (text_of decoding bytes, ended.1, input_by decoding bytes (Some (number, fault)) ended.0)
 told-traces decoding reason.ReadFault bytes left' got got' ended =
     (ended.0, ended.1, text_so_far decoding (edges_of ended.0), ended.2, ended.5, so_far decoding (edges_of ended.0))
 told-traces decoding (reason.WriteFault None) bytes left' got got' ended = (text_of decoding bytes, ended.0, input_text decoding bytes)

@@ -4,7 +4,7 @@ use Rattle.std.specs.List.{list_any}
 use Rattle.line_base.specs.declared.edge.Edge.{Edge}
 use Rattle.line_base.specs.declared.edge.Item.{Item}
 use Rattle.line_base.specs.declared.edge.Item.TheVariants as item
-use Rattle.edge_trace.specs.Limits.{whole_edges_of, whole_fault_of}
+use Rattle.edge_trace.specs.Limits.{edges_of, fault_of, whole_edges_of, whole_fault_of}
 use Rattle.receiver_core.specs.declared.report.Report.{Report}
 use Rattle.receiver_core.specs.declared.setup.ChannelSetup.{ChannelSetup}
 use Rattle.receiver_core.specs.declared.tally.Tally.{Tally}
@@ -13,6 +13,7 @@ use Rattle.receiver_core.specs.Channels.{so_far, final}
 use Rattle.receiver_core.specs.Tallies.{tally_of}
 use Rattle.report_text.specs.Reports.{report_text}
 use Rattle.report_text.specs.Totals.{total_text}
+use Rattle.command_base.specs.Tasks.{Task}
 
 -- the edge is on a line that the channel reads
 abbrev pub is_on : ChannelSetup → Edge → Bool
@@ -102,3 +103,13 @@ is_marked setups edges = list_any (λ setup. has_marks (tally_of (final_on setup
 -- how many reports a tally has counted: each as one of good, bad, a message or a gap, or not at all
 abbrev pub counted_in : Tally → ℕ
 counted_in tally = tally.good + tally.bad + tally.messages + tally.gaps
+
+-- what decoding makes of an edge list: its first fault, and the text of its edges
+abbrev pub decoding_task : Decoding → Task
+decoding_task decoding = record {
+  fault = fault_of;
+  text = λ bytes. text_so_far decoding (edges_of bytes);
+  whole_fault = whole_fault_of;
+  whole_text = text_of decoding;
+  is_marked = λ bytes. is_marked decoding.setups (whole_edges_of bytes);
+}

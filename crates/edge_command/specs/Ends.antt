@@ -2,19 +2,19 @@
 use Rattle.std.specs.Prelude.{◌≡◌, ℕ, true, false, List, Option}
 use Rattle.line_base.specs.declared.reason.Reason.{Reason}
 use Rattle.line_base.specs.declared.reason.Reason.TheVariants as reason
-use Rattle.command_base.specs.Ended as base
+use Rattle.command_base.specs.Ended.{Ended}
 use Rattle.link_words.specs.declared.command.Command.{Command}
 use Rattle.link_words.specs.declared.command.Command.TheVariants.{Decode, Check, Simulate, Loop}
 use Rattle.loop_command.specs.Ended.{LoopEnded}
 use Rattle.simulate_command.specs.Simulations.{WroteHonest, simulation}
-use Rattle.edge_command.specs.Ended.{Ended}
+use Rattle.edge_command.specs.Channels.{decoding_task}
 use Rattle.edge_command.specs.Traces.{ToldTraces}
 
 -- how a command ended on these bytes, by its reason: what is left of them, and what the output has grown by; `decode` has told a line of each report and then the totals, `check` the totals alone, and `simulate` the rows of the messages; what is said of `loop`, which reads nothing, is `CommandLooped`
 abbrev pub CommandEnded : Command → Reason → List ℕ → Option (List ℕ) → Option (List ℕ) → Option (List ℕ) → Type 0
-CommandEnded (Decode setups) why bytes left' got got' = Ended (record { setups = setups; told = true }) why bytes left' got got'
-CommandEnded (Check setups) why bytes left' got got' = Ended (record { setups = setups; told = false }) why bytes left' got got'
-CommandEnded (Simulate seed setup) why bytes left' got got' = base.Ended (simulation setup seed) why bytes left' got got'
+CommandEnded (Decode setups) why bytes left' got got' = Ended (decoding_task (record { setups = setups; told = true })) why bytes left' got got'
+CommandEnded (Check setups) why bytes left' got got' = Ended (decoding_task (record { setups = setups; told = false })) why bytes left' got got'
+CommandEnded (Simulate seed setup) why bytes left' got got' = Ended (simulation setup seed) why bytes left' got got'
 CommandEnded (Loop seed count setup) why bytes left' got got' = Unit {0}
 
 -- what a command told of honest traces in these bytes; `simulate` and `loop` read no edges

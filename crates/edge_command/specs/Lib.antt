@@ -3,8 +3,6 @@ pub mod Tellings
 pub mod Writes
 pub mod Followed
 pub mod Runs
-pub mod Totals
-pub mod Ended
 pub mod Traces
 pub mod Ends
 pub mod Counted

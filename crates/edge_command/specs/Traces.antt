@@ -51,7 +51,7 @@ IsInputText (Some fault) decoding edges text = IsTextSoFar decoding edges text
 unfoldable pub ToldTraces : Decoding → Reason → List ℕ → Option (List ℕ) → Option (List ℕ) → Type 0
 ToldTraces decoding reason.Clean bytes got got' = (text : List ℕ) × Appends got got' text × IsWholeText decoding (whole_edges_of bytes) text
 ToldTraces decoding reason.Marked bytes got got' = (text : List ℕ) × Appends got got' text × IsWholeText decoding (whole_edges_of bytes) text
-ToldTraces decoding (reason.Input number fault) bytes got got' = (text : List ℕ) × Appends got got' text × IsTextSoFar decoding (edges_of bytes) text
+ToldTraces decoding (reason.Input number fault) bytes got got' = (text : List ℕ) × Appends got got' text × IsTextSoFar decoding (whole_edges_of bytes) text
 ToldTraces decoding reason.ReadFault bytes got got' =
     (taken : List ℕ) × (rest : List ℕ) × (text : List ℕ) × (bytes ≡ taken ++ rest) × Appends got got' text × IsTextSoFar decoding (edges_of taken) text
 -- a front of such a text was written

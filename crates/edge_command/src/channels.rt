@@ -1,8 +1,8 @@
 //! A list of channels: each edge is handed to each of them in order, and what they tell is written.
-ghost use Rattle.std.specs.Prelude.{◌≡◌, ◌+◌, ◌^◌, ◌<◌, ◌≤◌, ◌++◌, [], ◌∷◌, List, ℕ, Bool, true, false, Option, None, All, IfOk, OnOk, OnErr, length, map};
+ghost use Rattle.std.specs.Prelude.{◌≡◌, ◌+◌, ◌^◌, ◌<◌, ◌≤◌, ◌++◌, [], ◌∷◌, List, false, None, All, IfOk, OnOk, OnErr, length, take};
 ghost use Rattle.line_base.specs.Causes.{HasCause};
 ghost use Rattle.line_base.specs.declared.edge.Edge.{Edge};
-ghost use Rattle.receiver_core.specs.Setups.{setup_fault_of};
+ghost use Rattle.receiver_core.specs.Setups.{reads_line, setup_fault_of};
 ghost use Rattle.receiver_core.specs.declared.setup.ChannelSetup.{ChannelSetup};
 ghost use Rattle.edge_command.specs.Channels.{edge_lines, end_lines, final_on, has_marks, is_marked, lines_of, report_line, reports_added, reports_of_end, told_lines, total_line, total_lines};
 ghost use Rattle.edge_command.specs.Followed.{AllCounted, AllFollow, Follows, setups_of};
@@ -171,8 +171,25 @@ fn take_end_on<K: Sink>(
     tell(told, number, reports, text, out)
 }
 
+/// How many of these channels, from the first on, read other lines than this.
+fn passed_over(channels: &[Channel], line: u8) -> usize
+    ensures fits { result ≤ length channels.now }
+    ensures others { All (λ channel. reads_line channel.setup line ≡ false) (take result channels.now) }
+{
+    let mut count = 0;
+    let mut rest = channels;
+    'channels: while let Some((channel, others)) = rest.split_first() {
+        if channel.setup.reads(line) {
+            break 'channels;
+        }
+        count += 1;
+        rest = others;
+    }
+    count
+}
+
 /// Hands the next edge of the list to each of these channels in order, of which the first has this number,
-/// and writes the lines of what they report.
+/// and writes the lines of what they report. Most channels read other lines: those are passed over.
 fn take_edge_from<K: Sink>(
     channels: &mut [Channel],
     told: bool,
@@ -195,13 +212,53 @@ fn take_edge_from<K: Sink>(
         → TakesFront (record { got = K.got out.old; gathered = text.old }) (K.got out.new) (told_lines told (edge_lines number (setups_of channels.old) edges edge))) }
     ensures cause { HasCause (K.faults out.old) (K.faults out.new) result }
 {
-    match channels.split_first_mut() {
+    let passed = passed_over(channels, edge.line);
+    let (_, reading) = channels.split_at_mut(passed);
+    let next = number + passed as u8;
+    match reading.split_first_mut() {
         None => Ok(()),
         Some((channel, others)) => {
-            take_edge_on(channel, told, number, edge, reports, text, out)?;
-            take_edge_from(others, told, number + 1, edge, reports, text, out)
+            take_edge_on(channel, told, next, edge, reports, text, out)?;
+            take_edge_from(others, told, next + 1, edge, reports, text, out)
         }
     }
+}
+
+/// Hands the next edge of the list to each of these channels in order, of which the first has number 1, and
+/// writes the lines of what they report. They get an edge of their own, so that none has to be kept in memory
+/// where channel 0 is the only one.
+#[inline(always)]
+fn take_edge_by_others<K: Sink>(
+    others: &mut [Channel],
+    told: bool,
+    edge: Edge,
+    reports: &mut ArrayVec<Report, 8>,
+    text: &mut Gathered,
+    out: &mut K,
+) -> Result<(), Failed>
+    requires few { 1 + length others.old ≤ 16 }
+    requires in_range { edge.time ≤ 10 ^ 15 }
+    requires empty { reports.old.items ≡ [] }
+    requires follow { (edges : List Edge) × AllFollow others.old edges × (length edges < 2 ^ 60) }
+    ensures setups { setups_of others.new ≡ setups_of others.old }
+    ensures empty { reports.new.items ≡ [] }
+    ensures follow { OnOk result ((edges : List Edge) → AllFollow others.old edges → AllFollow others.new (edges ++ edge ∷ [])) }
+    ensures written { OnOk result ((edges : List Edge) → AllFollow others.old edges
+        → Takes (record { got = K.got out.old; gathered = text.old }) (record { got = K.got out.new; gathered = text.new }) (told_lines told (edge_lines 1 (setups_of others.old) edges edge))) }
+    ensures cut { OnErr result ((edges : List Edge) → AllFollow others.old edges
+        → TakesFront (record { got = K.got out.old; gathered = text.old }) (K.got out.new) (told_lines told (edge_lines 1 (setups_of others.old) edges edge))) }
+    ensures cause { HasCause (K.faults out.old) (K.faults out.new) result }
+{
+    let Edge { line, time, level } = edge;
+    take_edge_from(
+        others,
+        told,
+        1,
+        Edge { line, time, level },
+        reports,
+        text,
+        out,
+    )
 }
 
 /// Hands the next edge of the list to each of these channels, at most 16, in order, and writes the lines of
@@ -231,21 +288,11 @@ pub fn take_edge<K: Sink>(
     match channels.split_first_mut() {
         None => Ok(()),
         Some((channel, others)) => {
-            // The other channels get an edge of their own, so that none has to be kept in memory for one channel.
-            let Edge { line, time, level } = edge;
             take_edge_on(channel, told, 0, edge, reports, text, out)?;
             if others.is_empty() {
                 return Ok(());
             }
-            take_edge_from(
-                others,
-                told,
-                1,
-                Edge { line, time, level },
-                reports,
-                text,
-                out,
-            )
+            take_edge_by_others(others, told, edge, reports, text, out)
         }
     }
 }

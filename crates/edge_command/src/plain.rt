@@ -1,21 +1,19 @@
 //! The top call without threads.
-ghost use Rattle.std.specs.Prelude.{All, ◌≢◌, ◌∷◌, true, ◌≡◌, ◌↔◌, Err, IsErr, ◌+◌, ◌<◌, ◌≤◌, [], List, ℕ, Option, None, Some, IfSome, IfOk, length, map, string_bytes, vec_len};
+ghost use Rattle.std.specs.Prelude.{All, ◌≢◌, true, ◌≡◌, ◌↔◌, Err, IsErr, ◌<◌, ◌≤◌, ℕ, None, IfSome, IfOk, length, map, string_bytes};
 ghost use Rattle.line_base.specs.Reasons.{status_of};
 ghost use Rattle.line_base.specs.declared.reason.Reason.TheVariants as reason;
 ghost use Rattle.receiver_core.specs.Setups.{setup_fault_of};
 ghost use Rattle.link_words.specs.Commands.{CountsFew, words_read, refused, setups_of_command};
-ghost use Rattle.edge_command.specs.Ended.{Ended};
+ghost use Rattle.command_base.specs.Ended.{Ended};
+ghost use Rattle.edge_command.specs.Channels.{decoding_task};
 ghost use Rattle.edge_command.specs.Ends.{CommandEnded, CommandLooped, CommandSends, CommandTold, TakesNothing};
-ghost use Rattle.edge_command.specs.Followed.{AllFollow, setups_of};
-ghost use Rattle.edge_command.specs.Totals.{IsOfRun};
 ghost use Rattle.command_base.specs.Counted.{OutputCounted, SourceCounted};
 ghost use Rattle.line_base.specs.declared.faults.WordFault.{WordFault};
 
-use crate::channel::Channel;
 use crate::channels::channels_of;
 use crate::run::Run;
-use command_base::{MAX_PULLS, read_buffer};
-use line_base::{Failed, Reason, Sink, Source};
+use command_base::{read_buffer, run_over};
+use line_base::{Reason, Sink, Source};
 use link_words::{Command, WordsFault, read_words};
 use loop_command::run_loop;
 use receiver_core::ChannelSetup;
@@ -31,41 +29,8 @@ pub struct Plain {
     pub reason: Reason,
 }
 
-/// Decodes all of a source's bytes on these channels, at most 16, that have taken no edge, and puts the text,
-/// with a line for each report where lines are told.
-fn decode<S: Source, K: Sink>(
-    channels: Vec<Channel>,
-    told: bool,
-    buffer: &mut [u8],
-    source: &mut S,
-    out: &mut K,
-) -> Reason
-    requires few { length channels.items ≤ 16 }
-    requires follow { AllFollow channels.items [] }
-    requires size { length buffer.old ≡ 4096 }
-    ensures kind { IsOfRun result }
-    ensures ended { IfSome (S.left source.old) (λ bytes. Ended (record { setups = setups_of channels.items; told = told }) result bytes (S.left source.new) (K.got out.old) (K.got out.new)) }
-    ensures source { SourceCounted result (S.faults source.old) (S.faults source.new) }
-    ensures output { OutputCounted result (K.faults out.old) (K.faults out.new) }
-{
-    let mut run = Run::new(channels, told);
-    for _pull in 0..MAX_PULLS {
-        let count = match source.pull(buffer) {
-            Ok(count) => count,
-            Err(Failed) => return Reason::ReadFault,
-        };
-        if count == 0 {
-            return run.finish(out);
-        }
-        if let Err(reason) = run.take_pull(&buffer[..count], out) {
-            return reason;
-        }
-    }
-    unreachable!()
-}
-
-/// Decodes all of a source's bytes on channels of these setups, at most 16 and none with a fault. Takes its
-/// memory before the first pull.
+/// Decodes all of a source's bytes on channels of these setups, at most 16 and none with a fault, and puts the
+/// text, with a line for each report where lines are told. Takes its memory before the first pull.
 fn decode_on<S: Source, K: Sink>(
     alloc: Global,
     setups: &[ChannelSetup],
@@ -77,7 +42,7 @@ fn decode_on<S: Source, K: Sink>(
     requires no_fault { All (λ setup. setup_fault_of setup ≡ None) setups.now }
     ensures words { (place : ℕ) (fault : WordFault) → result ≢ reason.Words place fault }
     ensures memory { result ≡ reason.OutOfMemory → (source.new ≡ source.old) × (out.new ≡ out.old) }
-    ensures ended { IfSome (S.left source.old) (λ bytes. Ended (record { setups = setups.now; told = told }) result bytes (S.left source.new) (K.got out.old) (K.got out.new)) }
+    ensures ended { IfSome (S.left source.old) (λ bytes. Ended (decoding_task (record { setups = setups.now; told = told })) result bytes (S.left source.new) (K.got out.old) (K.got out.new)) }
     ensures source { SourceCounted result (S.faults source.old) (S.faults source.new) }
     ensures output { OutputCounted result (K.faults out.old) (K.faults out.new) }
 {
@@ -85,7 +50,10 @@ fn decode_on<S: Source, K: Sink>(
         return Reason::OutOfMemory;
     };
     match read_buffer(alloc) {
-        Ok(mut buffer) => decode(channels, told, buffer.as_mut_slice(), source, out),
+        Ok(mut buffer) => {
+            let mut run = Run::new(channels, told);
+            run_over(&mut run, buffer.as_mut_slice(), source, out)
+        }
         Err(AllocError) => Reason::OutOfMemory,
     }
 }

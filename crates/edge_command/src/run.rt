@@ -1,5 +1,5 @@
 //! A run over bytes: each byte is read, and what it ends is handed to the channels and told.
-ghost use Rattle.std.specs.Prelude.{◌≡◌, ◌+◌, ◌^◌, ◌<◌, ◌≤◌, ◌++◌, [], ◌∷◌, List, ℕ, Option, None, All, MatchOption, length, take, OnErr, OnOk, IfErr, IfOk};
+ghost use Rattle.std.specs.Prelude.{◌≡◌, ◌+◌, ◌^◌, ◌<◌, ◌≤◌, ◌++◌, [], ◌∷◌, List, ℕ, None, All, length, take, OnErr, OnOk, IfErr, IfOk};
 ghost use Rattle.line_base.specs.Causes.{HasCause};
 ghost use Rattle.line_base.specs.declared.edge.Edge.{Edge};
 ghost use Rattle.edge_command.specs.Channels.{lines_behind, text_so_far, told_lines, whole_text};
@@ -10,6 +10,7 @@ use crate::channel::Channel;
 use crate::channels::{are_marked, put_end, take_edge};
 use crate::gathered::Gathered;
 use arrayvec::ArrayVec;
+use command_base::TaskRun;
 use edge_trace::{EdgeReader, EdgesLeft, RowEdges};
 use line_base::{Edge, Failed, LineFault, Reason, Sink};
 use receiver_core::Report;
@@ -77,10 +78,8 @@ fn take_edges<K: Sink>(
 }
 
 impl Run {
-    ghost use Rattle.edge_trace.specs.Limits.{edges_of, whole_edges_of};
-    ghost use Rattle.edge_command.specs.Runs.{Reads, StoppedAt, Stopped, TookBytes, TookPull, decoding_of, put_out, written_by};
-    ghost use Rattle.edge_command.specs.Totals.{LastTaken, Finished, IsOfRun};
-    ghost use Rattle.command_base.specs.Counted.{OutputCounted, PartCounted};
+    ghost use Rattle.edge_trace.specs.Limits.{whole_edges_of};
+    ghost use Rattle.edge_command.specs.Runs.{LastTaken, Reads, StoppedAt, TookBytes, decoding_of, put_out, written_by};
     ghost use Rattle.edge_command.specs.Counted.{StopCounted};
 
     /// A run over these channels, at most 16, that have taken no edge; with a line for each report where
@@ -273,32 +272,6 @@ impl Run {
         Ok(())
     }
 
-    /// Takes the bytes of a pull, and puts the lines of what they end.
-    pub fn take_pull<K: Sink>(&mut self, block: &[u8], out: &mut K) -> Result<(), Reason>
-        requires gathered { self.old.text ≡ [] }
-        requires reads { (bytes : List ℕ) × Reads self.old bytes }
-        ensures decoding { decoding_of self.new ≡ decoding_of self.old }
-        ensures gathered { OnOk result (self.new.text ≡ []) }
-        ensures took { OnOk result ((bytes : List ℕ) → Reads self.old bytes → TookPull self.old self.new (K.got out.old) (K.got out.new) bytes (bytes ++ block.now)) }
-        ensures stopped { IfErr result (λ why. (bytes : List ℕ) → Reads self.old bytes → Stopped (decoding_of self.old) why (K.got out.old) (K.got out.new) bytes (bytes ++ block.now)) }
-        ensures output { PartCounted result (K.faults out.old) (K.faults out.new) }
-    {
-        match self.take_block(block, out) {
-            Err(Stop::Put) => Err(Reason::WriteFault { lane: None }),
-            Err(Stop::Line { number, fault }) => match self.text.put(out) {
-                Err(Failed) => Err(Reason::WriteFault { lane: None }),
-                Ok(()) => Err(Reason::Input {
-                    line: number,
-                    fault,
-                }),
-            },
-            Ok(()) => match self.text.put(out) {
-                Err(Failed) => Err(Reason::WriteFault { lane: None }),
-                Ok(()) => Ok(()),
-            },
-        }
-    }
-
     /// The input has ended: takes what its unfinished last line is, and writes the lines of what it ends.
     fn take_last<K: Sink>(&mut self, out: &mut K) -> Result<(), Stop>
         requires { (bytes : List ℕ) × Reads self.old bytes }
@@ -339,14 +312,51 @@ impl Run {
             out,
         )
     }
+}
+
+impl TaskRun for Run {
+    ghost use Rattle.command_base.specs.Counted.{OutputCounted, PartCounted};
+    ghost use Rattle.command_base.specs.Ended.{IsOfRun};
+    ghost use Rattle.command_base.specs.Grown.{GrowsAlong as OutputGrows};
+    ghost use Rattle.command_base.specs.Parts.{Finished, Stopped};
+    ghost use Rattle.command_base.specs.Tasks.{Task};
+    ghost use Rattle.edge_command.specs.Runs.{HasPut};
+
+    ghost has_put = { HasPut };
+
+    /// Takes the bytes of a pull, and puts the lines of what they end.
+    fn take_pull<K: Sink>(&mut self, block: &[u8], out: &mut K) -> Result<(), Reason>
+        requires { (task : Task) × (bytes : List ℕ) × HasPut task self.old bytes }
+        ensures took { OnOk result ((task : Task) (bytes : List ℕ) → HasPut task self.old bytes → HasPut task self.new (bytes ++ block.now)) }
+        ensures sound { OnOk result ((task : Task) (bytes : List ℕ) → HasPut task self.old bytes → task.fault (bytes ++ block.now) ≡ None) }
+        ensures grows { OnOk result ((task : Task) (bytes : List ℕ) → HasPut task self.old bytes
+            → OutputGrows (K.got out.old) (K.got out.new) (task.text bytes) (task.text (bytes ++ block.now))) }
+        ensures stopped { IfErr result (λ why. (task : Task) (bytes : List ℕ) → HasPut task self.old bytes
+            → Stopped task why (K.got out.old) (K.got out.new) bytes (bytes ++ block.now)) }
+        ensures output { PartCounted result (K.faults out.old) (K.faults out.new) }
+    {
+        match self.take_block(block, out) {
+            Err(Stop::Put) => Err(Reason::WriteFault { lane: None }),
+            Err(Stop::Line { number, fault }) => match self.text.put(out) {
+                Err(Failed) => Err(Reason::WriteFault { lane: None }),
+                Ok(()) => Err(Reason::Input {
+                    line: number,
+                    fault,
+                }),
+            },
+            Ok(()) => match self.text.put(out) {
+                Err(Failed) => Err(Reason::WriteFault { lane: None }),
+                Ok(()) => Ok(()),
+            },
+        }
+    }
 
     /// The input has ended: takes what its unfinished last line is, puts the last lines and the total lines,
     /// and says how the run ended.
-    pub fn finish<K: Sink>(&mut self, out: &mut K) -> Reason
-        requires gathered { self.old.text ≡ [] }
-        requires reads { (bytes : List ℕ) × Reads self.old bytes }
+    fn finish<K: Sink>(&mut self, out: &mut K) -> Reason
+        requires { (task : Task) × (bytes : List ℕ) × HasPut task self.old bytes }
         ensures kind { IsOfRun result }
-        ensures ends { (bytes : List ℕ) → Reads self.old bytes → Finished (decoding_of self.old) result (K.got out.old) (K.got out.new) bytes }
+        ensures ends { (task : Task) (bytes : List ℕ) → HasPut task self.old bytes → Finished task result (K.got out.old) (K.got out.new) bytes }
         ensures output { OutputCounted result (K.faults out.old) (K.faults out.new) }
     {
         match self.take_last(out) {

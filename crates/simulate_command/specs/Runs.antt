@@ -15,6 +15,7 @@ use Rattle.sensor_sim.specs.Sims.{SimState, sim_next, started_by, lines_of}
 use Rattle.sensor_sim.specs.Played.{wobble_of}
 use Rattle.line_base.specs.Causes.{Rose}
 use Rattle.command_base.specs.Grown.{GrowsAlong, GrowsTowards}
+use Rattle.command_base.specs.Tasks.{Task}
 use Rattle.simulate_command.specs.declared.run.Run.{Run}
 use Rattle.simulate_command.specs.declared.run.Stop.{Stop}
 use Rattle.simulate_command.specs.declared.run.Stop.TheVariants as stop
@@ -48,10 +49,15 @@ pub record Reads (setup : ChannelSetup) (seed : ℕ) (run : Run) (bytes : List �
   pub lines : StandsFor setup run.reader bytes
   pub sent : HasSent setup seed run (told_of setup bytes)
 
--- the edges of what lines tell, and their first fault
+-- a run of the simulation of some channel by some seed has taken these bytes, and has put their rows
+abbrev pub HasPut : Task → Run → List ℕ → Type 0
+HasPut task run bytes = (setup : ChannelSetup) × (seed : ℕ) × (task ≡ simulation setup seed) × Reads setup seed run bytes
+
+-- the edges of what lines tell
 abbrev pub edges_by : ChannelSetup → ℕ → List (Numbered Message) → List Edge
 edges_by setup seed told = edges_played (started_by setup) (wobble_of seed) told
 
+-- and their first fault
 abbrev pub fault_by : ChannelSetup → ℕ → List (Numbered Message) → Option (ℕ × LineFault)
 fault_by setup seed told = fault_played (started_by setup) (wobble_of seed) told
 

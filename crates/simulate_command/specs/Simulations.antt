@@ -27,6 +27,7 @@ whole_messages_of setup bytes = messages_told (whole_told_of setup bytes)
 unfoldable pub edges_of : ChannelSetup → ℕ → List ℕ → List Edge
 edges_of setup seed bytes = played setup seed (messages_of setup bytes)
 
+-- the same of these bytes and no more
 unfoldable pub whole_edges_of : ChannelSetup → ℕ → List ℕ → List Edge
 whole_edges_of setup seed bytes = played setup seed (whole_messages_of setup bytes)
 

@@ -1,51 +1,18 @@
 //! The command over a source and an output.
-ghost use Rattle.std.specs.Prelude.{◌≡◌, ◌≢◌, ◌<◌, ◌≤◌, ℕ, [], List, None, IfSome, length};
+ghost use Rattle.std.specs.Prelude.{◌≡◌, ◌≢◌, ℕ, None, IfSome};
 ghost use Rattle.line_base.specs.declared.reason.Reason.TheVariants as reason;
 ghost use Rattle.line_base.specs.declared.faults.WordFault.{WordFault};
 ghost use Rattle.receiver_core.specs.Setups.{setup_fault_of};
 ghost use Rattle.command_base.specs.Counted.{OutputCounted, SourceCounted};
-ghost use Rattle.command_base.specs.Ended.{Ended, IsOfRun};
+ghost use Rattle.command_base.specs.Ended.{Ended};
 ghost use Rattle.simulate_command.specs.Simulations.{WroteHonest, simulation};
 
 use crate::run::Run;
-use command_base::{MAX_PULLS, read_buffer};
-use line_base::{Failed, Reason, Sink, Source};
+use command_base::{read_buffer, run_over};
+use line_base::{Reason, Sink, Source};
 use receiver_core::ChannelSetup;
 use sensor_sim::{played_edges_are_honest, setups_are_accepted, simulated_edges_are_honest};
 use std::alloc::{AllocError, Global};
-
-/// Simulates the sensor of a channel without a fault in its setup, by all of a source's bytes, and puts the rows.
-fn play<S: Source, K: Sink>(
-    seed: u64,
-    setup: &ChannelSetup,
-    buffer: &mut [u8],
-    source: &mut S,
-    out: &mut K,
-) -> Reason
-    requires no_fault { setup_fault_of setup.now ≡ None }
-    requires size { length buffer.old ≡ 4096 }
-    ensures kind { IsOfRun result }
-    ensures ended { IfSome (S.left source.old) (λ bytes. Ended (simulation setup.now seed) result bytes (S.left source.new) (K.got out.old) (K.got out.new)) }
-    ensures source { SourceCounted result (S.faults source.old) (S.faults source.new) }
-    ensures output { OutputCounted result (K.faults out.old) (K.faults out.new) }
-{
-    setups_are_accepted(setup);
-    simulated_edges_are_honest();
-    let mut run = Run::new(setup, seed);
-    for _pull in 0..MAX_PULLS {
-        let count = match source.pull(buffer) {
-            Ok(count) => count,
-            Err(Failed) => return Reason::ReadFault,
-        };
-        if count == 0 {
-            return run.finish(out);
-        }
-        if let Err(reason) = run.take_pull(&buffer[..count], out) {
-            return reason;
-        }
-    }
-    unreachable!()
-}
 
 /// Simulates the sensor of one channel: reads message lines from a source, and puts the narrow row of each edge that
 /// the sensor sends to `out`, at once for each message that has edges. One wobble of this seed serves all messages.
@@ -75,9 +42,13 @@ pub fn simulate<S: Source, K: Sink>(
     ensures output { OutputCounted result (K.faults out.old) (K.faults out.new) }
 {
     setups_are_accepted(setup);
+    simulated_edges_are_honest();
     played_edges_are_honest();
     match read_buffer(alloc) {
-        Ok(mut buffer) => play(seed, setup, buffer.as_mut_slice(), source, out),
+        Ok(mut buffer) => {
+            let mut run = Run::new(setup, seed);
+            run_over(&mut run, buffer.as_mut_slice(), source, out)
+        }
         Err(AllocError) => Reason::OutOfMemory,
     }
 }

@@ -7,6 +7,7 @@ ghost use Rattle.simulate_command.specs.Playing.{fault_told};
 ghost use Rattle.simulate_command.specs.Rows.{IsTellable, rows_of as text_of};
 
 use crate::rows::rows_of;
+use command_base::TaskRun;
 use line_base::{Edge, Failed, LineFault, Reason, Sink};
 use message_lines::MessageReader;
 use receiver_core::{ChannelSetup, Message};
@@ -64,9 +65,8 @@ impl Run {
     ghost use Rattle.receiver_core.specs.declared.message.Message.{Message as Told};
     ghost use Rattle.receiver_core.specs.declared.setup.ChannelSetup.{ChannelSetup as Setup};
     ghost use Rattle.receiver_core.specs.Setups.{setup_fault_of};
-    ghost use Rattle.command_base.specs.Counted.{OutputCounted, PartCounted};
-    ghost use Rattle.command_base.specs.Ended.{IsOfRun};
-    ghost use Rattle.command_base.specs.Parts.{Finished, Stopped};
+    ghost use Rattle.command_base.specs.Counted.{PartCounted};
+    ghost use Rattle.command_base.specs.Parts.{Stopped};
     ghost use Rattle.simulate_command.specs.Simulations.{simulation};
     ghost use Rattle.simulate_command.specs.Runs.{HasSent, Reads, SendsOrderly, SentOne, StopCounted, StoppedBy, Took};
 
@@ -126,14 +126,28 @@ impl Run {
             }),
         }
     }
+}
+
+impl TaskRun for Run {
+    ghost use Rattle.std.specs.Prelude.{◌≡◌, None};
+    ghost use Rattle.command_base.specs.Counted.{OutputCounted, PartCounted};
+    ghost use Rattle.command_base.specs.Ended.{IsOfRun};
+    ghost use Rattle.command_base.specs.Grown.{GrowsAlong};
+    ghost use Rattle.command_base.specs.Parts.{Finished, Stopped};
+    ghost use Rattle.command_base.specs.Tasks.{Task};
+    ghost use Rattle.simulate_command.specs.Runs.{HasPut};
+
+    ghost has_put = { HasPut };
 
     /// Takes the bytes of a pull, and sends what they tell it to send before the next byte is looked at.
-    pub fn take_pull<K: Sink>(&mut self, block: &[u8], out: &mut K) -> Result<(), Reason>
-        requires { (setup : Setup) × (seed : ℕ) × (bytes : List ℕ) × Reads setup seed self.old bytes }
-        ensures took { OnOk result ((setup : Setup) (seed : ℕ) (bytes : List ℕ) → Reads setup seed self.old bytes
-            → Took setup seed self.new (K.got out.old) (K.got out.new) bytes (bytes ++ block.now)) }
-        ensures stopped { IfErr result (λ why. (setup : Setup) (seed : ℕ) (bytes : List ℕ) → Reads setup seed self.old bytes
-            → Stopped (simulation setup seed) why (K.got out.old) (K.got out.new) bytes (bytes ++ block.now)) }
+    fn take_pull<K: Sink>(&mut self, block: &[u8], out: &mut K) -> Result<(), Reason>
+        requires { (task : Task) × (bytes : List ℕ) × HasPut task self.old bytes }
+        ensures took { OnOk result ((task : Task) (bytes : List ℕ) → HasPut task self.old bytes → HasPut task self.new (bytes ++ block.now)) }
+        ensures sound { OnOk result ((task : Task) (bytes : List ℕ) → HasPut task self.old bytes → task.fault (bytes ++ block.now) ≡ None) }
+        ensures grows { OnOk result ((task : Task) (bytes : List ℕ) → HasPut task self.old bytes
+            → GrowsAlong (K.got out.old) (K.got out.new) (task.text bytes) (task.text (bytes ++ block.now))) }
+        ensures stopped { IfErr result (λ why. (task : Task) (bytes : List ℕ) → HasPut task self.old bytes
+            → Stopped task why (K.got out.old) (K.got out.new) bytes (bytes ++ block.now)) }
         ensures output { PartCounted result (K.faults out.old) (K.faults out.new) }
     {
         for byte in block {
@@ -144,10 +158,10 @@ impl Run {
 
     /// The input has ended: sends the message of its unfinished last line, if there is one, and says how the run
     /// ended.
-    pub fn finish<K: Sink>(&mut self, out: &mut K) -> Reason
-        requires { (setup : Setup) × (seed : ℕ) × (bytes : List ℕ) × Reads setup seed self.old bytes }
+    fn finish<K: Sink>(&mut self, out: &mut K) -> Reason
+        requires { (task : Task) × (bytes : List ℕ) × HasPut task self.old bytes }
         ensures kind { IsOfRun result }
-        ensures ends { (setup : Setup) (seed : ℕ) (bytes : List ℕ) → Reads setup seed self.old bytes → Finished (simulation setup seed) result (K.got out.old) (K.got out.new) bytes }
+        ensures ends { (task : Task) (bytes : List ℕ) → HasPut task self.old bytes → Finished task result (K.got out.old) (K.got out.new) bytes }
         ensures output { OutputCounted result (K.faults out.old) (K.faults out.new) }
     {
         match self.reader.finish() {

@@ -36,14 +36,14 @@ returns-then-is_empty-clause-follow g c = λ edges before.
 
 pub returns-else-is_empty-clause-written : goal.returns-else-is_empty-clause-written
 returns-else-is_empty-clause-written g c =
-    on-ok c.take_edge_from.result c.take_edge_from.ensures.written (λ written edges before.
+    on-ok c.take_edge_by_others.result c.take_edge_by_others.ensures.written (λ written edges before.
     let follow = follow-parts c.args.channels.now c.in-Some.channel.now c.in-Some.others.now edges c.in-Some.ensures.cases.0 before in
     both-written _ _ _ _ _ _ (edge-parts c.args.told 0 c.args.channels.now c.in-Some.channel.now c.in-Some.others.now edges c.args.edge c.in-Some.ensures.cases.0)
     (c.in_ok-take_edge_on-in-Some.ensures.written edges follow.0) (written edges follow.1))
 
 pub returns-else-is_empty-clause-cut : goal.returns-else-is_empty-clause-cut
 returns-else-is_empty-clause-cut g c =
-    on-err c.take_edge_from.result c.take_edge_from.ensures.cut (λ cut edges before.
+    on-err c.take_edge_by_others.result c.take_edge_by_others.ensures.cut (λ cut edges before.
     let follow = follow-parts c.args.channels.now c.in-Some.channel.now c.in-Some.others.now edges c.in-Some.ensures.cases.0 before in
     second-cut _ _ _ _ _ _ (edge-parts c.args.told 0 c.args.channels.now c.in-Some.channel.now c.in-Some.others.now edges c.args.edge c.in-Some.ensures.cases.0)
     (c.in_ok-take_edge_on-in-Some.ensures.written edges follow.0) (cut edges follow.1))

@@ -42,8 +42,7 @@ returns-in-Err-clause-taken g c = λ bytes before.
     (c.in-Err.ensures.cut (edges_of bytes) before.follow)
 
 pub returns-in-Some-Err-clause-taken : goal.returns-in-Some-Err-clause-taken
-returns-in-Some-Err-clause-taken g c = λ bytes before. (
-  last_line-refused bytes c.line_number.result c.in-Some-Err.fault before.sound (rw c.in-Some-Err.field-0-is at (c.in-Some-Err.ensures.whole bytes before.lines))
-      (c.line_number.ensures.ended (line_number_of bytes) (c.in-Some-Err.ensures.ends bytes before.lines)),
-  refl,
-)
+returns-in-Some-Err-clause-taken g c = λ bytes before.
+    let refused = last_line-refused bytes c.line_number.result c.in-Some-Err.fault before.sound (rw c.in-Some-Err.field-0-is at (c.in-Some-Err.ensures.whole bytes before.lines))
+    (c.line_number.ensures.ended (line_number_of bytes) (c.in-Some-Err.ensures.ends bytes before.lines)) in
+    (refused.0, refused.1, refl)

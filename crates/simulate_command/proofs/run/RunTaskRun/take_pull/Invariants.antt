@@ -1,6 +1,6 @@
 use Rattle.std.proofs.Common.{take}
 use Rattle.simulate_command.proofs.Taking.{BlockSoFar}
-use Rattle.simulate_command.proofs.run.Run.take_pull.Given as goal
+use Rattle.simulate_command.proofs.run.RunTaskRun.take_pull.Given as goal
 
 abbrev pub invariant-loop-byte : goal.invariant-loop-byte
 invariant-loop-byte g l =
