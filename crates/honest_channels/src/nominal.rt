@@ -1,5 +1,5 @@
 //! Messages of each kind of channel, and an honest trace of them.
-ghost use Rattle.std.specs.Prelude.{◌≡◌, ℕ, ◌≤◌, None, Some, true, Option, List, All, flat_map, map};
+ghost use Rattle.std.specs.Prelude.{◌≡◌, ℕ, ◌≤◌, None, Option, List};
 ghost use Rattle.receiver_core.specs.declared.message.Message.{Message};
 ghost use Rattle.receiver_core.specs.declared.setup.ChannelSetup.TheVariants.{Sent, Psi5, Spc, Tooth};
 ghost use Rattle.receiver_core.specs.declared.setup.Serial.{Serial};

@@ -3,7 +3,6 @@ ghost use Rattle.std.specs.Prelude.{◌≡◌, ◌+◌, ◌*◌, ◌^◌, ◌<�
 ghost use Rattle.arrayvec.specs.ArrayVec.{array_vec_len};
 ghost use Rattle.psi5_frame.specs.Frames.{Fits, frame_of, waveform};
 ghost use Rattle.psi5_slots.specs.Meanings.{window_at};
-ghost use Rattle.psi5_slots.specs.Setup.{last_high};
 ghost use Rattle.spc_tolerance.specs.Trains.{last_of};
 ghost use Rattle.sim_base.specs.Recordings.{recorded_by};
 ghost use Rattle.sim_base.specs.Wobbles.{behind_word, past, word, words};
@@ -12,7 +11,7 @@ ghost use Rattle.psi5_sim.specs.Psi5Sims.{alternating, fits_parts, free_start, h
 use arrayvec::ArrayVec;
 use line_base::{Edge, Span};
 use psi5_frame::{Parts, Payload, Psi5Setup, bits_of, edges_of};
-use psi5_slots::SlotSetup;
+use psi5_slots::{SlotSetup, last_high};
 use receiver_core::SyncSlots;
 use sim_base::{MAX_EDGES, Wobble, record};
 
@@ -126,19 +125,6 @@ pub fn times_of(setup: &Psi5Setup, payload: &Payload, start: u64, half: u64) -> 
     BurstTimes { times, last }
 }
 
-/// The greatest offset of the last of these windows, in ns, or 0 where there is none.
-fn last_high(windows: &[Span]) -> u32
-    ensures { result ≡ last_high 0 windows.now }
-{
-    let mut last = 0;
-    let mut rest = windows;
-    'windows: while let Some((window, others)) = rest.split_first() {
-        last = window.high;
-        rest = others;
-    }
-    last
-}
-
 /// The rise of the next sync pulse in ps, behind the last one, up to 9 * 10^17 ps, or behind 0.
 #[tactic(auto, unfolding(crate::specs::Psi5Sims::next_sync))]
 pub fn next_sync(setup: &Psi5Setup, slots: &SyncSlots, last: Option<u64>) -> u64
@@ -147,7 +133,7 @@ pub fn next_sync(setup: &Psi5Setup, slots: &SyncSlots, last: Option<u64>) -> u64
     ensures room { 1000 * setup.now.jitter ≤ result }
 {
     let bit = u64::from(setup.bit());
-    let high = u64::from(last_high(slots.setup.windows()));
+    let high = u64::from(last_high(0, slots.setup.windows()));
     match last {
         None => 2_000 * bit,
         Some(last) => last + 1_000 * high + 1_050 * (u64::from(setup.bit_count()) + 3) * bit,

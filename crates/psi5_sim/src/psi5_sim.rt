@@ -1,13 +1,13 @@
 //! PSI5 sensors on a data line, and the control unit that they answer where there are slots, which send what they
 //! are told (the frames and the slots: PSI5 V2.1, base standard; the rest is this project's own).
-ghost use Rattle.std.specs.Prelude.{◌≡◌, ℕ, ◌*◌, ◌^◌, ◌≤◌, true, Some};
+ghost use Rattle.std.specs.Prelude.{◌≡◌, ◌*◌, ◌^◌, ◌≤◌, true, Some};
 ghost use Rattle.arrayvec.specs.ArrayVec.{array_vec_len};
 ghost use Rattle.psi5_frame.specs.Frames.{Fits};
 ghost use Rattle.psi5_tolerance.specs.Trains.{FrameAt, SyncAt};
 ghost use Rattle.sim_base.specs.Outcomes.{outcome_of};
 ghost use Rattle.receiver_core.specs.declared.setup.SyncSlots.{SyncSlots};
 ghost use Rattle.sim_base.specs.Wobbles.{behind_word, word};
-ghost use Rattle.psi5_sim.specs.Psi5Sims.{burst_next, edges_sent, fits_burst, fits_slot, frame_drawn, is_in_order, openings, psi5_next, start_of, started, sync_next};
+ghost use Rattle.psi5_sim.specs.Psi5Sims.{burst_next, edges_sent, fits_burst, fits_slot, is_in_order, openings, psi5_next, start_of, started, sync_next};
 
 use crate::bursts::{
     draw_half, draw_rise, fits_parts, free_start, next_sync, push_alternating, times_of,

@@ -1,13 +1,12 @@
 -- A script's messages are all heard.
 --     script-is, script-counts      the messages up to a counted one are the first messages, and so many of them are counted
 --     all-heard                     of what is played of them all is heard
-use Rattle.std.proofs.Common.{◌≡◌, ℕ, zero, suc, ◌+◌, ◌≤◌, Bool, true, false, if◌then◌else◌, None, List, [], ◌∷◌, length, map, refl, ap, ap₂, sym, subst, ◌∙◌, arith}
+use Rattle.std.proofs.Common.{◌≡◌, ℕ, zero, suc, ◌+◌, Bool, true, false, if◌then◌else◌, None, List, ◌∷◌, length, map, refl, ap, sym, subst, ◌∙◌, arith}
 use Rattle.std.proofs.lemmas.List.Sums.{sum_by-cons}
 use Rattle.rand_pcg.specs.Lcg.{Lcg}
 use Rattle.line_base.specs.declared.edge.Item.TheVariants as item
 use Rattle.receiver_core.specs.declared.message.Message.{Message}
 use Rattle.receiver_core.specs.declared.setup.ChannelSetup.{ChannelSetup}
-use Rattle.receiver_core.specs.declared.setup.ChannelSetup.TheVariants.{Sent, Psi5, Spc, Tooth}
 use Rattle.receiver_core.specs.Channels.{final}
 use Rattle.receiver_core.specs.Setups.{setup_fault_of}
 use Rattle.receiver_core.specs.Traces.{from_first}

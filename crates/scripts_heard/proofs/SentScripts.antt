@@ -1,16 +1,14 @@
 -- A script's messages are all sent, up to the 100,000th counted one.
 --     never-refused      by a simulator that has accepted those before
-use Rattle.std.proofs.Common.{◌≡◌, ℕ, zero, suc, ◌+◌, ◌≤◌, ◌<◌, Bool, true, false, if◌then◌else◌, None, List, [], ◌∷◌, refl, ap, sym, subst, ◌∙◌, arith}
+use Rattle.std.proofs.Common.{◌≡◌, ℕ, zero, suc, ◌+◌, ◌≤◌, ◌<◌, Bool, if◌then◌else◌, None, List, ◌∷◌, refl, ap, subst, ◌∙◌, arith}
 use Rattle.rand_pcg.specs.Lcg.{Lcg}
 use Rattle.receiver_core.specs.declared.message.Message.{Message}
 use Rattle.receiver_core.specs.declared.setup.ChannelSetup.{ChannelSetup}
-use Rattle.receiver_core.specs.Setups.{setup_fault_of}
 use Rattle.sim_base.specs.Outcomes.{Outcome, Sent, Refused}
 use Rattle.sensor_sim.specs.Played.{refusal_from}
-use Rattle.sensor_sim.specs.Sims.{IsAccepted, SimState, sim_next}
+use Rattle.sensor_sim.specs.Sims.{SimState, sim_next}
 use Rattle.sensor_sim.proofs.PlayedMessages.{refusal-sent}
 use Rattle.sensor_script.specs.Scripts.{ScriptState, script_next}
-use Rattle.heard_base.specs.Heard.{is_counted}
 use Rattle.heard_base.specs.Scripted.{AsMany, Enough, IsScripted, OneFewer}
 use Rattle.honest_scripts.specs.Followed.{HasFollowed, OneMore, counted}
 use Rattle.honest_scripts.specs.Taken.{IsSent}

@@ -102,16 +102,19 @@ spc_next state s = record {
 }
 
 -- ---- PSI5
--- the generators behind the values of a burst, from messaging to data B
+-- the generator behind the messaging bits of a burst; those behind its other values follow
 abbrev pub behind_m : Parts → Lcg → Lcg
 behind_m parts g = behind_value parts.m g
 
+-- behind frame control
 abbrev pub behind_f : Parts → Lcg → Lcg
 behind_f parts g = behind_value parts.f (behind_m parts g)
 
+-- behind the status
 abbrev pub behind_s : Parts → Lcg → Lcg
 behind_s parts g = behind_value parts.s (behind_f parts g)
 
+-- behind data B
 abbrev pub behind_b : Parts → Lcg → Lcg
 behind_b parts g = behind_value parts.b (behind_s parts g)
 
@@ -172,6 +175,7 @@ abbrev pub bus_next : ScriptState → Parts → ℕ → Option ℕ → Option �
 bus_next state parts slots init None = record { message = message.Sync; script = record state { slot = Some 0 } }
 bus_next state parts slots init (Some slot) = slot_next state parts slots init slot
 
+-- the next message of a PSI5 channel, with slots and without
 unfoldable pub psi5_next : ScriptState → psi5_frame.Settings → Option SyncSlots → Option ℕ → Scripted
 psi5_next state s None init = behind_burst state s.parts init
 psi5_next state s (Some slots) init = bus_next state s.parts (length slots.setup.windows) init state.slot

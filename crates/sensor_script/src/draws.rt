@@ -1,8 +1,8 @@
 //! Values of a script's messages.
-ghost use Rattle.std.specs.Prelude.{◌≡◌, ◌+◌, ◌%◌, ◌^◌, ◌<◌, ◌≤◌, All, length};
+ghost use Rattle.std.specs.Prelude.{◌≡◌, ◌+◌, ◌%◌, ◌^◌, ◌<◌, ◌≤◌, All};
 ghost use Rattle.arrayvec.specs.ArrayVec.{array_vec_len};
 ghost use Rattle.line_base.specs.Nibbles.{AreNibbles};
-ghost use Rattle.sensor_script.specs.Draws.{behind_value, init_code, init_nibbles, nibbles_by, signal_code, value};
+ghost use Rattle.sensor_script.specs.Draws.{behind_value, init_code, nibbles_by, signal_code, value};
 ghost use Rattle.sim_base.specs.Wobbles.{behind_word, past, word};
 
 use arrayvec::ArrayVec;

@@ -1,5 +1,5 @@
 //! What the edges of a call of SPC are like.
-ghost use Rattle.std.specs.Prelude.{◌≡◌, ℕ, None, List};
+ghost use Rattle.std.specs.Prelude.{◌≡◌, ℕ, List};
 ghost use Rattle.rand_pcg.specs.Lcg.{Lcg};
 ghost use Rattle.line_base.specs.declared.edge.Edge.{Edge};
 ghost use Rattle.receiver_core.specs.declared.message.Message.{Message};

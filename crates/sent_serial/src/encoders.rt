@@ -1,5 +1,5 @@
 //! The statuses of a serial message, as a sensor sends them (SAE J2716).
-ghost use Rattle.std.specs.Prelude.{◌≡◌, ◌/◌, ◌%◌, ◌+◌, ◌^◌, ◌<◌, ◌≤◌, [], ◌∷◌, All, length, map};
+ghost use Rattle.std.specs.Prelude.{◌≡◌, ◌/◌, ◌%◌, ◌+◌, ◌<◌, ◌≤◌, [], ◌∷◌, All, length, map};
 ghost use Rattle.link_math.specs.Division.{bits_of};
 ghost use Rattle.sent_serial.specs.Statuses.{HasTwoBits, start_bit, value_bit};
 ghost use Rattle.sent_serial.specs.Short.{short_reading};

@@ -1,6 +1,6 @@
 //! Enhanced serial messages (SAE J2716): an ID and a value of 20 bits together and a CRC of 6, in eighteen
 //! frames.
-ghost use Rattle.std.specs.Prelude.{◌≡◌, ◌^◌, ◌<◌, ◌++◌, [], ◌∷◌, List, ℕ, true, false, nat_eq, ◌/◌, ◌%◌};
+ghost use Rattle.std.specs.Prelude.{◌≡◌, ◌<◌, ◌++◌, [], ◌∷◌, List, ℕ, true, false, ◌/◌, ◌%◌};
 ghost use Rattle.line_base.specs.Standing.{Leads};
 ghost use Rattle.link_math.specs.Division.{bits_of};
 ghost use Rattle.sent_serial.specs.Statuses.{merged, start_bit};

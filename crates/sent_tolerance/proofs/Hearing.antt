@@ -1,7 +1,7 @@
 -- What is heard of a list, whatever its elements are.
 --     heard-map      of what is made of each element
 --     heard-rest     it is what was sent, from some element on
-use Rattle.std.proofs.Common.{◌≡◌, ℕ, zero, suc, ◌+◌, ◌-◌, ◌*◌, List, [], ◌∷◌, length, map, drop, slice_index, refl, ap, ap₂, ◌∙◌}
+use Rattle.std.proofs.Common.{◌≡◌, ℕ, zero, suc, ◌-◌, ◌*◌, List, [], ◌∷◌, length, map, drop, slice_index, refl, ap, ◌∙◌}
 use Rattle.std.proofs.lemmas.List.{length-map}
 use Rattle.line_base.specs.Edges.{NumberedEdge}
 use Rattle.sent_frame.specs.Setup.{Settings}

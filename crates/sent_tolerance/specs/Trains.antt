@@ -1,5 +1,5 @@
 -- What a SENT sensor sends: frames, pulse after pulse (SAE J2716). The bounds are this project's own.
-use Rattle.std.specs.Prelude.{◌≡◌, ℕ, ◌+◌, ◌*◌, ◌<◌, ◌≤◌, true, List, [], ◌∷◌, All, length, flat_map}
+use Rattle.std.specs.Prelude.{◌≡◌, ℕ, ◌<◌, ◌≤◌, true, List, [], ◌∷◌, All, length, flat_map}
 use Rattle.sent_frame.specs.declared.frame.SentFrame.{SentFrame}
 use Rattle.sent_frame.specs.Setup.{Settings}
 use Rattle.sent_frame.specs.Frames.{ticks_of}

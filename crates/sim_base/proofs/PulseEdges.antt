@@ -14,7 +14,7 @@ use Rattle.sent_frame.specs.Pulses.{Fall, falls_in}
 use Rattle.tolerance.specs.Pulses.{falls_behind}
 use Rattle.tolerance.specs.Recorded.{AreRecorded}
 use Rattle.receiver_core.specs.Traces.{numbered}
-use Rattle.sim_base.specs.Recordings.{falls_with_rises, pulses_at}
+use Rattle.sim_base.specs.Recordings.{pulses_at}
 use Rattle.sim_base.proofs.OrderlyEdges.{last_time, levels_behind}
 
 -- ---- falls far enough apart

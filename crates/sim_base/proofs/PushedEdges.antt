@@ -2,7 +2,7 @@
 --     AddsEdges        what is there so far, and what the edges that are left come to
 --     adds-next        one more
 --     adds-end         none is left
-use Rattle.std.proofs.Common.{◌≡◌, ℕ, ◌+◌, ◌<◌, ◌≤◌, Bool, not, List, [], ◌∷◌, ◌++◌, length, drop, get_or, refl, ap₂, sym, subst, ◌∙◌, append_assoc, append-nil, add-one, drop-cons}
+use Rattle.std.proofs.Common.{◌≡◌, ℕ, ◌+◌, ◌<◌, ◌≤◌, Bool, not, List, [], ◌∷◌, ◌++◌, length, drop, get_or, refl, sym, subst, ◌∙◌, append_assoc, append-nil, add-one, drop-cons}
 use Rattle.std.proofs.lemmas.List.{drop_all}
 use Rattle.rand_pcg.specs.Lcg.{Lcg}
 use Rattle.line_base.specs.declared.edge.Edge.{Edge}

@@ -1,12 +1,10 @@
 //! The times of an SPC transaction, in ps.
-ghost use Rattle.std.specs.Prelude.{◌≡◌, ◌+◌, ◌*◌, ◌^◌, ◌<◌, ◌≤◌, [], ◌∷◌, ◌++◌, All, length, ℕ};
+ghost use Rattle.std.specs.Prelude.{◌≡◌, ◌+◌, ◌*◌, ◌^◌, ◌<◌, ◌≤◌, All, length, ℕ};
 ghost use Rattle.arrayvec.specs.ArrayVec.{array_vec_len};
-ghost use Rattle.line_base.specs.Nibbles.{AreNibbles};
 ghost use Rattle.sent_frame.specs.Reading.{covered, crc_of};
-ghost use Rattle.spc_tolerance.specs.Trains.{SentAnswer, Trigger, answer_falls, ticks_in};
-ghost use Rattle.tolerance.specs.Ticks.{IsTick};
+ghost use Rattle.spc_tolerance.specs.Trains.{Trigger, ticks_in};
 ghost use Rattle.sim_base.specs.DrawnTicks.{any_tick};
-ghost use Rattle.spc_sim.specs.SpcSims.{IsDrawnAnswer, answer_sent, answer_words, fits_answer, fits_code, inside, past_answer, past_trigger, trigger_sent, trigger_words};
+ghost use Rattle.spc_sim.specs.SpcSims.{IsDrawnAnswer, answer_sent, answer_words, inside, past_answer, past_trigger, trigger_sent, trigger_words};
 ghost use Rattle.sim_base.specs.Wobbles.{behind_word, word};
 
 use arrayvec::ArrayVec;

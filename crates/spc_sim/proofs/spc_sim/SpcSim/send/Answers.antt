@@ -6,7 +6,6 @@ use Rattle.spc_sim.specs.SpcStates.{SpcState}
 use Rattle.sim_base.specs.Wobbles.{behind_word, past, word, words}
 use Rattle.spc_sim.proofs.SpcOutcomes.{refuses-late, sends-edges}
 use Rattle.spc_sim.proofs.spc_sim.SpcSim.send.Goals as goal
-use Rattle.spc_sim.proofs.spc_sim.SpcSim.send.Goals.{After-self-1}
 
 pub returns-then-last-gt-MAX_IDEAL : goal.returns-then-last-gt-MAX_IDEAL
 returns-then-last-gt-MAX_IDEAL c = λ t times. refuses-late c.args.self.now t c.args.wobble.now c.args.last times.last_is c.if-last-gt-MAX_IDEAL.true
