@@ -15,6 +15,7 @@ finished-source task (reason.Input number fault) got got' bytes before now finis
 finished-source task (reason.WriteFault lane) got got' bytes before now finished same = same
 finished-source task reason.OutOfMemory got got' bytes before now finished same = same
 finished-source task (reason.Words place fault) got got' bytes before now finished same = same
+finished-source task (reason.Archive at fault) got got' bytes before now finished same = same
 finished-source task reason.ReadFault got got' bytes before now never same = absurd never
 
 -- nor where a run stopped at its bytes
@@ -25,6 +26,7 @@ stopped-source task (reason.Input number fault) got got' earlier bytes before no
 stopped-source task (reason.WriteFault lane) got got' earlier bytes before now stopped same = same
 stopped-source task reason.OutOfMemory got got' earlier bytes before now stopped same = same
 stopped-source task (reason.Words place fault) got got' earlier bytes before now stopped same = same
+stopped-source task (reason.Archive at fault) got got' earlier bytes before now stopped same = same
 stopped-source task reason.ReadFault got got' earlier bytes before now never same = absurd never
 
 -- and such a reason only a run has
@@ -36,3 +38,4 @@ stopped-of_run task (reason.WriteFault lane) got got' earlier bytes stopped = tt
 stopped-of_run task reason.ReadFault got got' earlier bytes stopped = tt
 stopped-of_run task reason.OutOfMemory got got' earlier bytes never = absurd never
 stopped-of_run task (reason.Words place fault) got got' earlier bytes never = absurd never
+stopped-of_run task (reason.Archive at fault) got got' earlier bytes never = absurd never

@@ -100,6 +100,7 @@ ended-whole task (reason.WriteFault (Some lane)) bytes got mid got' none written
 ended-whole task (reason.Words place fault) bytes got mid got' none written never = never
 ended-whole task reason.ReadFault bytes got mid got' none written never = absurd never
 ended-whole task reason.OutOfMemory bytes got mid got' none written never = absurd never
+ended-whole task (reason.Archive at fault) bytes got mid got' none written never = never
 
 -- a run whose pull gave no byte
 pub pull-ended : (task : Task) (Reads : List ℕ → Type 0) (pulls : ℕ) (why : Reason) (left mid left' got mid' got' : Option (List ℕ)) (faults faults' puts puts' : ℕ) (so_far : PulledSoFar task Reads pulls left mid got mid' faults faults' puts puts')
@@ -135,6 +136,7 @@ stopped-ended task reason.Clean earlier block rest got mid got' steady small sou
 stopped-ended task reason.Marked earlier block rest got mid got' steady small sound written never = absurd never
 stopped-ended task reason.ReadFault earlier block rest got mid got' steady small sound written never = absurd never
 stopped-ended task reason.OutOfMemory earlier block rest got mid got' steady small sound written never = absurd never
+stopped-ended task (reason.Archive at fault) earlier block rest got mid got' steady small sound written never = never
 
 -- a run that stopped at a pull's block
 pub pull-stopped : (task : Task) (Reads : List ℕ → Type 0) (pulls : ℕ) (why : Reason) (left mid left' got mid' got' : Option (List ℕ)) (faults faults' puts puts' : ℕ) (block : List ℕ) (so_far : PulledSoFar task Reads pulls left mid got mid' faults faults' puts puts')
@@ -166,3 +168,4 @@ stopped-behind task reason.Clean a b c first earlier bytes more steady before ne
 stopped-behind task reason.Marked a b c first earlier bytes more steady before never = never
 stopped-behind task reason.ReadFault a b c first earlier bytes more steady before never = never
 stopped-behind task reason.OutOfMemory a b c first earlier bytes more steady before never = never
+stopped-behind task (reason.Archive at fault) a b c first earlier bytes more steady before never = never

@@ -33,12 +33,14 @@ Ended task reason.ReadFault bytes left' got got' =
 Ended task (reason.WriteFault None) bytes left' got got' = AppendsFront got got' (task.whole_text bytes) × HasReadTo task bytes left' got got'
 -- nothing was read or written
 Ended task reason.OutOfMemory bytes left' got got' = (left' ≡ Some bytes) × Appends got got' []
--- no lane is written to, and the words were accepted
+-- no lane is written to, the words were accepted, and no archive is read
 Ended task (reason.WriteFault (Some lane)) bytes left' got got' = ⊥
 Ended task (reason.Words place fault) bytes left' got got' = ⊥
+Ended task (reason.Archive at fault) bytes left' got got' = ⊥
 
--- a reason that only a run over bytes has: the words were accepted, and there was memory
+-- a reason that a run over bytes has: the words were accepted, there was memory, and no archive is read
 abbrev pub IsOfRun : Reason → Type 0
 IsOfRun (reason.Words place fault) = ⊥
 IsOfRun reason.OutOfMemory = ⊥
+IsOfRun (reason.Archive at fault) = ⊥
 IsOfRun _ = Unit {0}

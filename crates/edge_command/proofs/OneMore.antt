@@ -9,7 +9,8 @@ use Rattle.receiver_core.specs.declared.report.Report.{Report}
 use Rattle.receiver_core.specs.declared.receiver.Receiver.{Receiver}
 use Rattle.receiver_core.specs.declared.setup.ChannelSetup.{ChannelSetup}
 use Rattle.receiver_core.specs.declared.tally.Tally.{Tally}
-use Rattle.receiver_core.specs.Channels.{so_far, final, edges_counted}
+use Rattle.line_base.specs.Items.{edges_counted}
+use Rattle.receiver_core.specs.Channels.{so_far, final}
 use Rattle.receiver_core.specs.Readers.{StandsFor, IsTakeable}
 use Rattle.receiver_core.specs.Tallies.{tally_of, TellNoGap}
 use Rattle.receiver_core.proofs.NoGaps.{so_far-tells, final-tells, tell-behind}

@@ -57,6 +57,7 @@ told-traces decoding (reason.WriteFault None) bytes left' got got' ended = (text
 told-traces decoding reason.OutOfMemory bytes left' got got' ended = tt
 told-traces decoding (reason.WriteFault (Some lane)) bytes left' got got' ended = ended
 told-traces decoding (reason.Words place fault) bytes left' got got' ended = ended
+told-traces decoding (reason.Archive at fault) bytes left' got got' ended = ended
 
 -- the same of accepted words and of a source that tells its bytes
 told-of-command : (command : Command) (bytes : List ℕ) (why : Reason) (left' got got' : Option (List ℕ)) → CommandEnded command why bytes left' got got' → CommandTold command why bytes got got'

@@ -59,6 +59,7 @@ ToldTraces decoding (reason.WriteFault None) bytes got got' =
     (text : List ℕ) × AppendsFront got got' text × IsInputText (whole_fault_of bytes) decoding (whole_edges_of bytes) text
 -- nothing was written
 ToldTraces decoding reason.OutOfMemory bytes got got' = Unit {0}
--- no lane is written to, and the words were accepted
+-- no lane is written to, the words were accepted, and no archive is read
 ToldTraces decoding (reason.WriteFault (Some lane)) bytes got got' = ⊥
 ToldTraces decoding (reason.Words place fault) bytes got got' = ⊥
+ToldTraces decoding (reason.Archive at fault) bytes got got' = ⊥

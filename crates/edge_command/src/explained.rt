@@ -9,10 +9,10 @@ use report_text::push_decimal;
 /// The room for the line of a reason and its LF.
 pub const EXPLAINED_ROOM: usize = 64;
 
-/// Adds the name of a fault and an LF behind a number, which stands behind `before`.
+/// Adds the name of a fault and an LF behind a number, which stands behind `before`, of at most 13 letters.
 fn push_fault(out: &mut ArrayString<EXPLAINED_ROOM>, before: &str, number: u64, fault: &str)
     requires empty { out.old.bytes ≡ [] }
-    requires before { length before.now ≤ 11 }
+    requires before { length before.now ≤ 13 }
     requires fault { length fault.now ≤ 12 }
     ensures { out.new.bytes ≡ before.now ++ decimal number ++ codes ": " ++ fault.now ++ codes "\n" }
 {
@@ -42,5 +42,6 @@ pub fn explain(reason: &Reason, out: &mut ArrayString<EXPLAINED_ROOM>)
             out.push('\n');
         }
         Reason::OutOfMemory => out.push_str("out of memory\n"),
+        Reason::Archive { at, fault } => push_fault(out, "archive byte ", *at, fault.name()),
     }
 }

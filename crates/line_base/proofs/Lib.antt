@@ -11,3 +11,6 @@ pub mod Numbers
 pub mod WholeNumbers
 pub mod Decimals
 pub mod KeptSpans
+pub mod Opens
+pub mod ThinnedEdges
+pub mod ThinnedOrders

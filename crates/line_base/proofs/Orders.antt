@@ -10,7 +10,7 @@ nil-front [] ys h = refl
 nil-front (x ∷ xs) ys h = cc
 
 -- a list with an element in it isn't empty
-not-nil : {A : Type 0} (xs : List A) (y : A) (ys : List A) {C : Type 0} → xs ++ y ∷ ys ≡ [] → C
+pub not-nil : {A : Type 0} (xs : List A) (y : A) (ys : List A) {C : Type 0} → xs ++ y ∷ ys ≡ [] → C
 not-nil [] y ys h = absurd cc
 not-nil (x ∷ xs) y ys h = absurd cc
 

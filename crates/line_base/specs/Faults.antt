@@ -4,10 +4,12 @@ use Rattle.line_base.specs.declared.faults.WordFault.{WordFault}
 use Rattle.line_base.specs.declared.faults.WordFault.TheVariants as word
 use Rattle.line_base.specs.declared.faults.LineFault.{LineFault}
 use Rattle.line_base.specs.declared.faults.LineFault.TheVariants as line
+use Rattle.line_base.specs.declared.archive_fault.ArchiveFault.{ArchiveFault}
+use Rattle.line_base.specs.declared.archive_fault.ArchiveFault.TheVariants as archive
 use Rattle.line_base.specs.declared.faults.SetupFault.{SetupFault}
 use Rattle.line_base.specs.declared.faults.SetupFault.TheVariants as setup
 
--- the number of a word's fault, 1 to 10
+-- the number of a word's fault, 1 to 11
 abbrev pub word_fault_number : WordFault → ℕ
 word_fault_number word.Missing = 1
 word_fault_number word.Command = 2
@@ -19,6 +21,7 @@ word_fault_number word.Setup = 7
 word_fault_number word.Channels = 8
 word_fault_number word.Extra = 9
 word_fault_number word.NotBuilt = 10
+word_fault_number word.Unfit = 11
 
 -- the number of a line's fault, 1 to 9 or 11; 10 is no number of a fault
 abbrev pub line_fault_number : LineFault → ℕ
@@ -62,6 +65,7 @@ word_fault_name word.Setup = codes "Setup"
 word_fault_name word.Channels = codes "Channels"
 word_fault_name word.Extra = codes "Extra"
 word_fault_name word.NotBuilt = codes "NotBuilt"
+word_fault_name word.Unfit = codes "Unfit"
 
 -- the name by which a line's fault is printed
 abbrev pub line_fault_name : LineFault → List ℕ
@@ -75,3 +79,27 @@ line_fault_name line.LineTooLong = codes "LineTooLong"
 line_fault_name line.InputTooLong = codes "InputTooLong"
 line_fault_name line.Order = codes "Order"
 line_fault_name line.Version = codes "Version"
+
+-- the number of a fault of an archive, 1 to 9
+abbrev pub archive_fault_number : ArchiveFault → ℕ
+archive_fault_number archive.Header = 1
+archive_fault_number archive.Channel = 2
+archive_fault_number archive.Tag = 3
+archive_fault_number archive.Number = 4
+archive_fault_number archive.Range = 5
+archive_fault_number archive.Count = 6
+archive_fault_number archive.Trailing = 7
+archive_fault_number archive.Truncated = 8
+archive_fault_number archive.TooLong = 9
+
+-- the name by which a fault of an archive is printed
+abbrev pub archive_fault_name : ArchiveFault → List ℕ
+archive_fault_name archive.Header = codes "Header"
+archive_fault_name archive.Channel = codes "Channel"
+archive_fault_name archive.Tag = codes "Tag"
+archive_fault_name archive.Number = codes "Number"
+archive_fault_name archive.Range = codes "Range"
+archive_fault_name archive.Count = codes "Count"
+archive_fault_name archive.Trailing = codes "Trailing"
+archive_fault_name archive.Truncated = codes "Truncated"
+archive_fault_name archive.TooLong = codes "TooLong"

@@ -15,3 +15,4 @@ pub mod Readings
 pub mod Standing
 pub mod Steps
 pub mod Texts
+pub mod Items

@@ -3,16 +3,15 @@
 ghost use Rattle.std.specs.Prelude.{◌≡◌, ◌≤◌, length};
 ghost use Rattle.line_base.specs.Faults.{line_fault_name, line_fault_number, setup_fault_number, word_fault_name, word_fault_number};
 
-use std::error::Error;
-use std::fmt;
-use std::fmt::{Display, Formatter};
+use thiserror::Error;
 
 /// A pull or a put failed: the count of faults of the object rose.
 #[derive(Clone, Copy, Debug, PartialEq, Eq)]
 pub struct Failed;
 
 /// Why a word of the command line is refused. It is printed by its name.
-#[derive(Clone, Copy, Debug, PartialEq, Eq)]
+#[derive(Clone, Copy, Debug, PartialEq, Eq, Error)]
+#[error("{}", self.name())]
 pub enum WordFault {
     /// The word has to be there and isn't.
     Missing,
@@ -34,6 +33,8 @@ pub enum WordFault {
     Extra,
     /// The word names a part that isn't built yet.
     NotBuilt,
+    /// The channel isn't of the kind that the command wants.
+    Unfit,
 }
 
 impl WordFault {
@@ -53,10 +54,11 @@ impl WordFault {
             WordFault::Channels => "Channels",
             WordFault::Extra => "Extra",
             WordFault::NotBuilt => "NotBuilt",
+            WordFault::Unfit => "Unfit",
         }
     }
 
-    /// The fault's number, 1 to 10.
+    /// The fault's number, 1 to 11.
     pub fn number(self) -> u8
         ensures { result ≡ word_fault_number self }
     {
@@ -71,20 +73,14 @@ impl WordFault {
             WordFault::Channels => 8,
             WordFault::Extra => 9,
             WordFault::NotBuilt => 10,
+            WordFault::Unfit => 11,
         }
     }
 }
 
-impl Display for WordFault {
-    fn fmt<W: fmt::Write>(&self, f: &mut Formatter<W>) -> fmt::Result {
-        f.write_str(self.name())
-    }
-}
-
-impl Error for WordFault {}
-
 /// Why a line of input is refused. It is printed by its name.
-#[derive(Clone, Copy, Debug, PartialEq, Eq)]
+#[derive(Clone, Copy, Debug, PartialEq, Eq, Error)]
+#[error("{}", self.name())]
 pub enum LineFault {
     /// A wrong number of fields, or a bad header.
     Field,
@@ -146,14 +142,6 @@ impl LineFault {
         }
     }
 }
-
-impl Display for LineFault {
-    fn fmt<W: fmt::Write>(&self, f: &mut Formatter<W>) -> fmt::Result {
-        f.write_str(self.name())
-    }
-}
-
-impl Error for LineFault {}
 
 /// The first value of a setup that is refused.
 #[derive(Clone, Copy, Debug, PartialEq, Eq)]

@@ -5,8 +5,10 @@
 //! faults and the statuses are this project's own.
 #![tactic(auto)]
 
+mod archive_fault;
 mod edge;
 mod faults;
+mod lazy_file_sink;
 mod memory_sink;
 mod memory_source;
 mod nibbles;
@@ -21,8 +23,10 @@ mod std_streams;
 mod tests;
 pub mod text;
 
+pub use archive_fault::ArchiveFault;
 pub use edge::{Edge, Item, MAX_TIME, Span};
 pub use faults::{Failed, LineFault, SetupFault, WordFault};
+pub use lazy_file_sink::LazyFileSink;
 pub use memory_sink::MemorySink;
 pub use memory_source::MemorySource;
 pub use nibbles::Nibbles;

@@ -2,7 +2,7 @@
 ghost use Rattle.std.specs.Prelude.{◌≡◌};
 ghost use Rattle.line_base.specs.Reasons.{status_of};
 
-use crate::{LineFault, WordFault};
+use crate::{ArchiveFault, LineFault, WordFault};
 
 /// How a run ended.
 #[derive(Clone, Copy, Debug, PartialEq, Eq)]
@@ -34,10 +34,17 @@ pub enum Reason {
     },
     /// Want of memory.
     OutOfMemory,
+    /// An archive of reports is refused.
+    Archive {
+        /// The offset of the byte, counted from 0, at which it is told.
+        at: u64,
+        /// Why it is refused.
+        fault: ArchiveFault,
+    },
 }
 
 impl Reason {
-    /// The exit status, 0 to 6.
+    /// The exit status, 0 to 7.
     pub fn status(&self) -> u8
         ensures { result ≡ status_of self.now }
     {
@@ -49,6 +56,7 @@ impl Reason {
             Reason::ReadFault => 4,
             Reason::WriteFault { .. } => 5,
             Reason::OutOfMemory => 6,
+            Reason::Archive { .. } => 7,
         }
     }
 }

@@ -50,6 +50,20 @@ impl<R: Read + Drop> Source for StdSource<R> {
     }
 }
 
+/// Writes until all bytes are taken, or to the first write that fails or takes nothing.
+pub(crate) fn write_each<W: Write>(writer: &mut W, bytes: &[u8]) -> Result<(), Failed>
+    ensures { PutAppends (W.contents writer.old) (W.contents writer.new) result bytes.now }
+{
+    let mut rest = bytes;
+    'writes: while !rest.is_empty() {
+        match writer.write(rest) {
+            Ok(count) if count > 0 => rest = &rest[count..],
+            _ => return Err(Failed),
+        }
+    }
+    Ok(())
+}
+
 /// A writer of std as a sink. A write that fails or takes nothing is a fault.
 #[derive(Drop)]
 pub struct StdSink<W> {
@@ -78,16 +92,10 @@ impl<W: Write + Drop> Sink for StdSink<W> {
         ensures cause { HasCause (sink_faults self.old) (sink_faults self.new) result }
         ensures faults { Counts (sink_faults self.old) (sink_faults self.new) result }
     {
-        let mut rest = bytes;
-        'writes: while !rest.is_empty() {
-            match self.writer.write(rest) {
-                Ok(count) if count > 0 => rest = &rest[count..],
-                _ => {
-                    self.faults = self.faults.saturating_add(1);
-                    return Err(Failed);
-                }
-            }
+        let result = write_each(&mut self.writer, bytes);
+        if result.is_err() {
+            self.faults = self.faults.saturating_add(1);
         }
-        Ok(())
+        result
     }
 }

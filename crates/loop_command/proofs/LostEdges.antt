@@ -4,11 +4,13 @@ use Rattle.std.specs.List.{All, Contains, range_with_len}
 use Rattle.std.proofs.lemmas.Bool.Decides.{nat_tests}
 use Rattle.std.proofs.lemmas.List.{drop-append-le, drop_all, length-drop, length-map, length-take-le, map-append, take-append-le, take_at}
 use Rattle.std.proofs.lemmas.List.FromFn.{get_or-map-range_with_len, length-map-range_with_len, map-range_with_len_more}
+use Rattle.line_base.proofs.Opens.{edges_counted-append}
+use Rattle.line_base.proofs.ThinnedEdges.{thinned-lost, thinned-more, thinned-short}
 use Rattle.line_base.specs.Thinned.{AreLostFrom, LostRun, thinned, thinned_from}
 use Rattle.line_base.specs.declared.edge.Edge.{Edge}
 use Rattle.line_base.specs.declared.edge.Item.{Item}
 use Rattle.line_base.specs.declared.edge.Item.TheVariants as item
-use Rattle.receiver_core.specs.Channels.{edges_counted}
+use Rattle.line_base.specs.Items.{edges_counted}
 use Rattle.loop_command.specs.LostRuns.{lost_run, lost_runs}
 use Rattle.loop_command.specs.Listened.{IsThinnedTo, whole_run, whole_runs}
 
@@ -44,11 +46,6 @@ runs-within edges whole lost at some few =
     ∙ ap₂ (λ (rs : List LostRun) r. rs ++ r ∷ []) (are-whole edges 1 whole (omega (arith, at))) (same-run (1000 * (whole + 1)) (min 50 (edges - 1000 * (whole + 1))) (1000 * (whole + 1)) lost refl (omega (arith, at, some, few)))
 
 -- ---- where they lie
-lost-within : (number end : ℕ) (runs : List LostRun) → AreLostFrom number end runs → number ≤ end
-unfolding AreLostFrom
-lost-within number end [] lost = lost
-lost-within number end (run ∷ runs) (behind, some, rest) = (let within = lost-within (run.first + run.count) end runs rest in omega (arith, behind, some, within))
-
 -- whole runs lie within the edges up to one that is behind them
 whole-lost : (number first count end : ℕ) → number ≤ 1000 * first → number ≤ end → 1000 * (first + count) + 50 ≤ end + 1000 → AreLostFrom number end (map whole_run (range_with_len first count))
 unfolding AreLostFrom
@@ -72,71 +69,11 @@ unfolding lost_runs AreLostFrom
 lost_runs-lost zero = omega arith
 lost_runs-lost (suc end) = runs-lost 0 1 ((suc end - 1) / 1000) (suc end) (omega arith) (omega arith) (omega arith)
 
--- ---- the items
-module _ (more : List Edge) where
-  -- edges behind all runs stay
-  pub thinned-more : (number end : ℕ) (edges : List Edge) (runs : List LostRun) → number + length edges ≡ end → AreLostFrom number end runs
-      → thinned_from number (edges ++ more) runs ≡ thinned_from number edges runs ++ map item.Edge more
-  unfolding thinned_from AreLostFrom
-  thinned-more number end edges [] long lost = map-append item.Edge edges more
-  thinned-more number end edges (run ∷ runs) long (behind, some, rest) =
-      let within = lost-within (run.first + run.count) end runs rest in
-      ap₂ (λ (front : List Edge) (end : List Item). map item.Edge front ++ item.Gap run.first run.count ∷ end)
-      (take-append-le (run.first - number) edges more (omega (arith, long, behind, within)))
-      (ap (λ l. thinned_from (run.first + run.count) l runs) (drop-append-le (run.first - number + run.count) edges more (omega (arith, long, behind, within)))
-      ∙ thinned-more (run.first + run.count) end (drop (run.first - number + run.count) edges) runs (omega (arith, length-drop (run.first - number + run.count) edges, long, behind, within)) rest)
-      ∙ sym (append_assoc (map item.Edge (take (run.first - number) edges)) (item.Gap run.first run.count ∷ thinned_from (run.first + run.count) (drop (run.first - number + run.count) edges) runs) (map item.Edge more))
-
-  -- edges behind all runs that are lost too are a gap
-  pub thinned-lost : (number end : ℕ) (edges : List Edge) (runs : List LostRun) → number + length edges ≡ end → AreLostFrom number end runs
-      → thinned_from number (edges ++ more) (runs ++ record { first = end; count = length more } ∷ []) ≡ thinned_from number edges runs ++ item.Gap end (length more) ∷ []
-  unfolding thinned_from AreLostFrom
-  thinned-lost number end edges [] long lost =
-      let whole : length edges ≡ end - number = omega (arith, long) in
-      ap₂ (λ (front : List Edge) (behind : List Edge). map item.Edge front ++ item.Gap end (length more) ∷ map item.Edge behind)
-      (take_at edges more (end - number) whole)
-      (drop_all (end - number + length more) (edges ++ more) (omega (arith, length-append edges more, long)))
-  thinned-lost number end edges (run ∷ runs) long (behind, some, rest) =
-      let within = lost-within (run.first + run.count) end runs rest in
-      ap₂ (λ (front : List Edge) (end : List Item). map item.Edge front ++ item.Gap run.first run.count ∷ end)
-      (take-append-le (run.first - number) edges more (omega (arith, long, behind, within)))
-      (ap (λ l. thinned_from (run.first + run.count) l (runs ++ record { first = end; count = length more } ∷ [])) (drop-append-le (run.first - number + run.count) edges more (omega (arith, long, behind, within)))
-      ∙ thinned-lost (run.first + run.count) end (drop (run.first - number + run.count) edges) runs (omega (arith, length-drop (run.first - number + run.count) edges, long, behind, within)) rest)
-      ∙ sym (append_assoc (map item.Edge (take (run.first - number) edges)) (item.Gap run.first run.count ∷ thinned_from (run.first + run.count) (drop (run.first - number + run.count) edges) runs) (item.Gap end (length more) ∷ []))
-
--- a gap stands for one edge or more
-pub thinned-short : (number end : ℕ) (edges : List Edge) (runs : List LostRun) → number + length edges ≡ end → AreLostFrom number end runs → length (thinned_from number edges runs) ≤ length edges
-unfolding thinned_from AreLostFrom
-thinned-short number end edges [] long lost = omega (arith, length-map edges item.Edge)
-thinned-short number end edges (run ∷ runs) long (behind, some, rest) =
-    let within = lost-within (run.first + run.count) end runs rest in
-    let dropped = length-drop (run.first - number + run.count) edges in
-    let short = thinned-short (run.first + run.count) end (drop (run.first - number + run.count) edges) runs (omega (arith, dropped, long, behind, within)) rest in
-    omega (
-      arith,
-      length-append (map item.Edge (take (run.first - number) edges)) (item.Gap run.first run.count ∷ thinned_from (run.first + run.count) (drop (run.first - number + run.count) edges) runs),
-      length-map (take (run.first - number) edges) item.Edge,
-      length-take-le (run.first - number) edges (omega (arith, long, behind, within)),
-      dropped,
-      short,
-      long,
-      behind,
-      some,
-      within,
-    )
-
 -- so is what is lost of a loop's edges
 pub lost-short : (edges : List Edge) → length (thinned edges (lost_runs (length edges))) ≤ length edges
 lost-short edges = thinned-short 0 (length edges) edges (lost_runs (length edges)) (omega arith) (lost_runs-lost (length edges))
 
 -- ---- one edge more
-edges_counted-more : (items : List Item) (next : Item) → edges_counted (items ++ next ∷ []) ≡ edges_counted items + edges_counted (next ∷ [])
-edges_counted-more [] next = omega arith
-edges_counted-more (item.Edge edge ∷ items) next = (let before = edges_counted-more items next in omega (arith, before))
-edges_counted-more (item.Gap first count ∷ items) next = (let before = edges_counted-more items next in omega (arith, before))
-edges_counted-more (item.End ∷ items) next = edges_counted-more items next
-edges_counted-more (item.Cut ∷ items) next = edges_counted-more items next
-
 -- the number of an edge is one of a lost run, or isn't
 abbrev pub is_lost : ℕ → Bool
 is_lost number = nat_le 1000 number && nat_lt (number % 1000) 50
@@ -262,7 +199,7 @@ module _ (edges : List Edge) (items : List Item) (made : IsThinnedTo edges items
           before = (let one = not_lost-before made.whole (length made.kept) made.before (subst (λ (l : List Edge). (length l < 1000) ⊎ (50 ≤ length l % 1000)) same (kept-at (length edges) here)) in omega (arith, longer, one));
           few = omega arith;
           opened = inl refl;
-          counted = edges_counted-more items (item.Edge edge) ∙ (let was = made.counted in omega (arith, was, longer));
+          counted = edges_counted-append items (item.Edge edge ∷ []) ∙ (let was = made.counted in omega (arith, was, longer));
           short = (let was = made.short in let more = length-append items (item.Edge edge ∷ []) in omega (arith, was, longer, more));
         }
 
@@ -309,7 +246,7 @@ module _ (edges : List Edge) (items : List Item) (made : IsThinnedTo edges items
           before = omega (arith, all, at, whole_now);
           few = omega arith;
           opened = inl refl;
-          counted = edges_counted-more items (item.Gap (length edges - 49) 50) ∙ (let was = made.counted in omega (arith, was, all, whole_now));
+          counted = edges_counted-append items (item.Gap (length edges - 49) 50 ∷ []) ∙ (let was = made.counted in omega (arith, was, all, whole_now));
           short = (let was = made.short in let more = length-append items (item.Gap (length edges - 49) 50 ∷ []) in omega (arith, was, all, whole_now, more));
         }
 

@@ -8,7 +8,7 @@ use Rattle.receiver_core.specs.declared.setup.ChannelSetup.TheVariants.{Psi5, Se
 use Rattle.receiver_core.specs.declared.setup.Serial.TheVariants as serial
 use Rattle.receiver_core.specs.declared.setup.SyncSlots.{SyncSlots}
 use Rattle.sensor_script.specs.Scripts.{ScriptState, bus_next, enhanced_next, frame_next, next_by, psi5_next, script_next, sent_next, short_next, spc_next, tooth_next}
-use Rattle.heard_base.specs.Heard.{is_counted}
+use Rattle.sensor_script.specs.Counted.{is_counted}
 
 -- the later script has the same setup, and its next message is counted
 abbrev IsTurned : ScriptState → ChannelSetup → ScriptState → Type 0

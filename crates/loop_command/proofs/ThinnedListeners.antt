@@ -6,7 +6,8 @@ use Rattle.line_base.specs.declared.edge.Edge.{Edge}
 use Rattle.line_base.specs.declared.edge.Item.{Item}
 use Rattle.line_base.specs.declared.edge.Item.TheVariants as item
 use Rattle.receiver_core.specs.declared.setup.ChannelSetup.{ChannelSetup}
-use Rattle.receiver_core.specs.Channels.{edges_counted, final}
+use Rattle.line_base.specs.Items.{edges_counted}
+use Rattle.receiver_core.specs.Channels.{final}
 use Rattle.loop_command.specs.declared.gaps.GapListener.{GapListener}
 use Rattle.loop_command.specs.declared.listener.Listener.{Listener}
 use Rattle.loop_command.specs.declared.listeners.Listeners.{Listeners}

@@ -18,8 +18,8 @@ use Rattle.loop_command.specs.declared.listeners.Listeners.{Listeners}
 use Rattle.loop_command.specs.declared.script_loop.ScriptLoop.{ScriptLoop}
 use Rattle.loop_command.specs.Listened.{AreInRange, HaveGot}
 use Rattle.loop_command.specs.Running.{AreOfLoop, HasLeft, HasSent, HasSentAll, Refuses, Sends}
-use Rattle.heard_base.specs.Heard.{is_counted}
-use Rattle.heard_base.specs.Scripted.{AsMany, Enough, IsScripted, OneFewer}
+use Rattle.sensor_script.specs.Counted.{is_counted}
+use Rattle.sensor_script.specs.Scripted.{AsMany, Enough, IsScripted, OneFewer}
 use Rattle.loop_command.proofs.ScriptTurns.{next-counted}
 
 -- ---- a script goes on

@@ -9,8 +9,8 @@ use Rattle.receiver_core.specs.declared.setup.ChannelSetup.{ChannelSetup}
 use Rattle.receiver_core.specs.declared.tally.Tally.{Tally}
 use Rattle.receiver_core.specs.Channels.{final}
 use Rattle.sensor_sim.specs.Played.{played, refusal}
-use Rattle.heard_base.specs.AllGood.{AllGood}
-use Rattle.heard_base.specs.Scripted.{IsScripted}
+use Rattle.scripts_heard.specs.AllGood.{AllGood}
+use Rattle.sensor_script.specs.Scripted.{IsScripted}
 use Rattle.loop_command.specs.Ended.{LoopEnded, Wrote}
 use Rattle.loop_command.specs.Listened.{CountsAll}
 use Rattle.loop_command.specs.Loops.{last_time, line_of_edges, loop_line, script_of}

@@ -10,8 +10,8 @@ use Rattle.receiver_core.specs.declared.setup.ChannelSetup.{ChannelSetup}
 use Rattle.receiver_core.specs.Channels.{final}
 use Rattle.sensor_sim.specs.Played.{played, refusal}
 use Rattle.loop_command.specs.Loops.{line_of_edges, script_of}
-use Rattle.heard_base.specs.AllGood.{AllGood}
-use Rattle.heard_base.specs.Scripted.{IsScripted}
+use Rattle.scripts_heard.specs.AllGood.{AllGood}
+use Rattle.sensor_script.specs.Scripted.{IsScripted}
 
 -- a reason that a loop has: it has put its line, or the put failed
 abbrev pub IsOfLoop : Reason → Type 0

@@ -8,7 +8,8 @@ use Rattle.line_base.specs.declared.edge.Item.TheVariants as item
 use Rattle.receiver_core.specs.declared.report.Report.{Report}
 use Rattle.receiver_core.specs.declared.setup.ChannelSetup.{ChannelSetup}
 use Rattle.receiver_core.specs.declared.tally.Tally.{Tally}
-use Rattle.receiver_core.specs.Channels.{edges_counted, so_far}
+use Rattle.line_base.specs.Items.{edges_counted}
+use Rattle.receiver_core.specs.Channels.{so_far}
 use Rattle.receiver_core.specs.Readers.{StandsFor}
 use Rattle.receiver_core.specs.Tallies.{tally_of}
 use Rattle.loop_command.specs.declared.listener.Listener.{Listener}

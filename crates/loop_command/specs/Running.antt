@@ -13,7 +13,7 @@ use Rattle.loop_command.specs.declared.channel.Channel.{Channel}
 use Rattle.loop_command.specs.declared.script_loop.ScriptLoop.{ScriptLoop}
 use Rattle.loop_command.specs.Listened.{HaveGot}
 use Rattle.loop_command.specs.Loops.{script_of}
-use Rattle.heard_base.specs.Scripted.{IsScripted}
+use Rattle.sensor_script.specs.Scripted.{IsScripted}
 
 -- the channel's simulator has sent these edges of some messages, at most 2^40 of them, and the listeners have got them
 pub record HasSent (channel : Channel) (setup : ChannelSetup) (edges : List Edge) : Type 0 where

@@ -5,7 +5,7 @@ ghost use Rattle.line_base.specs.declared.edge.Edge.{Edge};
 ghost use Rattle.receiver_core.specs.declared.message.Message.{Message};
 ghost use Rattle.sensor_script.specs.Scripts.{ScriptState};
 ghost use Rattle.loop_command.specs.LostRuns.{lost_run, lost_runs};
-ghost use Rattle.heard_base.specs.Scripted.{IsScripted};
+ghost use Rattle.sensor_script.specs.Scripted.{IsScripted};
 
 /// Does nothing; its contract is a law. The runs that a loop loses of its edges may be lost of them. There is one of each
 /// number from 1 on that times 1,000 is below the number of edges, and no other.

@@ -69,7 +69,7 @@ impl Listener {
     ghost use Rattle.line_base.specs.declared.edge.Item.{Item};
     ghost use Rattle.receiver_core.specs.declared.setup.ChannelSetup.{ChannelSetup};
     ghost use Rattle.receiver_core.specs.Setups.{setup_fault_of};
-    ghost use Rattle.receiver_core.specs.Channels.{edges_counted};
+    ghost use Rattle.line_base.specs.Items.{edges_counted};
     ghost use Rattle.receiver_core.specs.Readers.{IsTakeable};
     ghost use Rattle.loop_command.specs.Listened.{HasGot};
 

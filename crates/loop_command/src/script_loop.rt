@@ -3,7 +3,7 @@ ghost use Rattle.std.specs.Prelude.{◌≡◌, ℕ, suc, List, None, OnOk, OnErr
 ghost use Rattle.line_base.specs.declared.edge.Edge.{Edge};
 ghost use Rattle.receiver_core.specs.declared.setup.ChannelSetup.{ChannelSetup};
 ghost use Rattle.receiver_core.specs.Setups.{setup_fault_of};
-ghost use Rattle.heard_base.specs.Heard.{is_counted};
+ghost use Rattle.sensor_script.specs.Counted.{is_counted};
 
 use crate::channel::Channel;
 use receiver_core::{ChannelSetup, Message};

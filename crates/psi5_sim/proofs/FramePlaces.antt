@@ -10,7 +10,7 @@ use Rattle.psi5_frame.specs.declared.burst.Payload.{Payload}
 use Rattle.psi5_frame.specs.Setup.{Settings, bit_count, check_width}
 use Rattle.psi5_frame.specs.Frames.{changed_at, check_number, frame_of, levels_of, payload_bits, waveform}
 use Rattle.psi5_frame.proofs.FrameLaws.{length-framed}
-use Rattle.tolerance.specs.Recorded.{AreRecorded}
+use Rattle.link_tolerance.specs.Recorded.{AreRecorded}
 use Rattle.sim_base.proofs.OrderlyEdges.{last_time}
 use Rattle.psi5_sim.specs.Psi5Sims.{alternating}
 use Rattle.psi5_sim.proofs.AlternatingEdges.{AreOrderly, toggled}

@@ -22,7 +22,7 @@ use Rattle.psi5_frame.specs.Frames.{frame_of, waveform}
 use Rattle.psi5_slots.specs.Meanings.{window_at}
 use Rattle.psi5_tolerance.specs.Trains.{FrameSent, Sending, SyncAt, FrameAt, SentBefore, end_of, nothing_sent, sent_with}
 use Rattle.receiver_core.specs.declared.setup.SyncSlots.{SyncSlots}
-use Rattle.tolerance.specs.Recorded.{AreRecorded, IsRecorded}
+use Rattle.link_tolerance.specs.Recorded.{AreRecorded, IsRecorded}
 use Rattle.sim_base.specs.Recordings.{edge_at, pulses_at, recorded_by, rises_with_falls}
 use Rattle.sim_base.proofs.OrderlyEdges.{IsSoFar, has-line, last_time, levels_behind, more_so_far, none_so_far}
 use Rattle.sim_base.proofs.PulseEdges.{level-here, pulses-level, pulses-orderly, pulses-other}

@@ -21,7 +21,7 @@ use Rattle.psi5_tolerance.specs.Traces.{IsDataLine, IsSyncLine, OpensBehind, ide
 use Rattle.receiver_core.specs.declared.setup.SyncSlots.{SyncSlots}
 use Rattle.receiver_core.specs.Psi5Traces.{windows_of}
 use Rattle.receiver_core.specs.Traces.{numbered}
-use Rattle.tolerance.specs.Recorded.{AreRecorded}
+use Rattle.link_tolerance.specs.Recorded.{AreRecorded}
 use Rattle.sim_base.specs.Recordings.{edge_at, rises_with_falls, pulses_at}
 use Rattle.sim_base.proofs.RecordedTimes.{recorded-append}
 use Rattle.psi5_sim.specs.Psi5Sims.{alternating, openings}

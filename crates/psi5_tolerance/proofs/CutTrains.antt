@@ -12,7 +12,7 @@ use Rattle.psi5_frame.specs.Setup.{Settings}
 use Rattle.psi5_frame.specs.Edges.{Change, changes_after}
 use Rattle.psi5_frame.specs.Frames.{frame_of, waveform}
 use Rattle.psi5_frame.specs.Bursts.{has_start, all_bursts, starts_in}
-use Rattle.tolerance.specs.Recorded.{IsRecorded, OpensAfter}
+use Rattle.link_tolerance.specs.Recorded.{IsRecorded, OpensAfter}
 use Rattle.psi5_tolerance.specs.Lines.{SyncWindows}
 use Rattle.psi5_tolerance.specs.Trains.{Psi5Message, Sync, FrameSent, Sending, SyncAt, FrameAt, message_of, IdealEdge, edges_at, edges_sent, ideal_edges, SentBefore, sent_with, IsHalf, IsFrameSent, IsTrainBehind}
 use Rattle.psi5_tolerance.specs.Traces.{on_data, ideal_times}

@@ -14,7 +14,7 @@ use Rattle.psi5_frame.specs.declared.burst.Payload.{Payload}
 use Rattle.psi5_frame.specs.Setup.{Settings}
 use Rattle.psi5_frame.specs.Edges.{Change, changes_of, changes_after}
 use Rattle.psi5_frame.specs.Bursts.{begins, all_bursts, starts_in, bursts_at_end, burst_starts}
-use Rattle.tolerance.specs.Recorded.{AreRecorded, OpensAfter}
+use Rattle.link_tolerance.specs.Recorded.{AreRecorded, OpensAfter}
 use Rattle.psi5_tolerance.specs.Lines.{SyncWindows, data_edges, sync_edges, behind_opening, rises_of, times_of, told_edges, synced_after}
 use Rattle.psi5_tolerance.specs.Trains.{Psi5Message, Sync, Burst as Sent, Sending, SyncAt, FrameAt, message_of, IdealEdge, edges_sent, ideal_edges, nothing_sent}
 use Rattle.psi5_tolerance.specs.Traces.{on_data, on_sync, ideal_times, OpensBehind, IsHonest}

@@ -10,7 +10,7 @@ use Rattle.line_base.specs.Edges.{NumberedEdge}
 use Rattle.psi5_frame.specs.Setup.{Settings, fault_of, bit_count}
 use Rattle.psi5_frame.specs.Frames.{frame_of, waveform}
 use Rattle.psi5_frame.proofs.FrameLaws.{length-framed}
-use Rattle.tolerance.specs.Recorded.{IsRecorded, AreRecorded}
+use Rattle.link_tolerance.specs.Recorded.{IsRecorded, AreRecorded}
 use Rattle.psi5_tolerance.specs.Lines.{SyncWindows, is_on_sync, data_edges, sync_edges, behind_opening, rises_of, times_of, IsNotBefore, AreInOrder}
 use Rattle.psi5_tolerance.specs.Trains.{Psi5Message, FrameSent, Sending, SyncAt, FrameAt, message_of, IdealEdge, edges_at, edges_sent, ideal_edges, SentBefore, nothing_sent, end_of, sent_with, IsFrameSent, IsTrainBehind, IsTrain}
 use Rattle.psi5_tolerance.specs.Traces.{on_data, on_sync, ideal_times, AreSlots, OpensBehind, IsHonest}

@@ -12,7 +12,7 @@ use Rattle.link_math.specs.declared.manchester.Halves.TheVariants.{Short, One, T
 use Rattle.link_math.specs.Manchester.{halves_in}
 use Rattle.psi5_frame.specs.Intervals.{is_quiet}
 use Rattle.psi5_frame.specs.Setup.{Settings, fault_of, are_refused}
-use Rattle.tolerance.specs.Recorded.{IsRecorded}
+use Rattle.link_tolerance.specs.Recorded.{IsRecorded}
 use Rattle.psi5_tolerance.specs.Trains.{IsHalf}
 
 -- ---- the setup

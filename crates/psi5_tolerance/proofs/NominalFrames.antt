@@ -3,7 +3,7 @@
 use Rattle.std.proofs.Common.{◌≡◌, ℕ, ◌-◌, None, Some, List, [], ◌∷◌, length, map, drop, refl, sym, ◌∙◌, ap, subst, arith}
 use Rattle.psi5_frame.specs.Setup.{Settings, fault_of}
 use Rattle.psi5_frame.specs.Edges.{changes_of, changes_after}
-use Rattle.tolerance.specs.Recorded.{AreRecorded}
+use Rattle.link_tolerance.specs.Recorded.{AreRecorded}
 use Rattle.psi5_tolerance.specs.Lines.{data_edges, told_edges}
 use Rattle.psi5_tolerance.specs.Trains.{Burst, SentBefore, message_of, IdealEdge, ideal_edges, nothing_sent, IsTrainBehind}
 use Rattle.psi5_tolerance.specs.Traces.{on_data, ideal_times}

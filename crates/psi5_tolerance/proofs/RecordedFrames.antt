@@ -19,7 +19,7 @@ use Rattle.psi5_frame.specs.Frames.{payload_bits, check_number, frame_of, change
 use Rattle.psi5_frame.specs.Waveforms.{IsStep, AreSteps, Alternate, places_after, IsFrameBurst}
 use Rattle.psi5_frame.specs.Bursts.{has_start, last_of, judged}
 use Rattle.psi5_frame.proofs.FrameLaws.{frame_is_good, front_of_waveform, length-framed}
-use Rattle.tolerance.specs.Recorded.{IsRecorded, AreRecorded}
+use Rattle.link_tolerance.specs.Recorded.{IsRecorded, AreRecorded}
 use Rattle.psi5_tolerance.specs.Lines.{SyncWindows, times_of}
 use Rattle.psi5_tolerance.specs.Trains.{FrameSent, FrameAt, IdealEdge, edges_at, edges_sent, end_of, SentBefore, IsHalf, IsFrameSent}
 use Rattle.psi5_tolerance.specs.Traces.{ideal_times}

@@ -10,7 +10,7 @@ use Rattle.psi5_frame.specs.declared.burst.Payload.{Payload}
 use Rattle.psi5_frame.specs.Setup.{Settings}
 use Rattle.psi5_frame.specs.Edges.{Change, changes_of, changes_after}
 use Rattle.psi5_frame.specs.Bursts.{begins}
-use Rattle.tolerance.specs.Recorded.{OpensAfter}
+use Rattle.link_tolerance.specs.Recorded.{OpensAfter}
 use Rattle.psi5_tolerance.specs.Lines.{SyncWindows, is_on_sync, data_edges, synced_after, told_edges}
 use Rattle.psi5_tolerance.specs.Trains.{Psi5Message, Sync, Burst as Sent, FrameSent, Sending, SyncAt, FrameAt, message_of, ideal_edges, SentBefore, nothing_sent, end_of, sent_with, IsTrainBehind}
 use Rattle.psi5_tolerance.specs.Traces.{on_data, ideal_times, IsHonest}

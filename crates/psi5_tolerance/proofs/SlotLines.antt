@@ -13,7 +13,7 @@ use Rattle.psi5_frame.specs.Frames.{frame_of, waveform}
 use Rattle.psi5_frame.specs.Bursts.{has_start}
 use Rattle.psi5_slots.specs.declared.placed.Placed.TheVariants.{Before}
 use Rattle.psi5_slots.specs.History.{Event, has_sync, placed_in}
-use Rattle.tolerance.specs.Recorded.{AreRecorded, OpensAfter}
+use Rattle.link_tolerance.specs.Recorded.{AreRecorded, OpensAfter}
 use Rattle.psi5_tolerance.specs.Lines.{SyncWindows, data_edges, sync_edges, behind_opening, rises_of, times_of}
 use Rattle.psi5_tolerance.specs.Trains.{Psi5Message, Sync, FrameSent, Sending, SyncAt, FrameAt, message_of, IdealEdge, edges_at, edges_sent, ideal_edges, SentBefore, nothing_sent, sent_with, IsTrainBehind}
 use Rattle.psi5_tolerance.specs.Traces.{on_data, on_sync, ideal_times, OpensBehind, IsHonest}

@@ -17,7 +17,7 @@ use Rattle.psi5_slots.specs.History.{Event, has_sync, is_answered, starts_since,
 use Rattle.psi5_slots.specs.History.Event.{Start}
 use Rattle.psi5_slots.specs.Meanings.{window_at}
 use Rattle.psi5_slots.proofs.Histories.{placed-first, placed-after}
-use Rattle.tolerance.specs.Recorded.{IsRecorded, AreRecorded}
+use Rattle.link_tolerance.specs.Recorded.{IsRecorded, AreRecorded}
 use Rattle.psi5_tolerance.specs.Lines.{SyncWindows}
 use Rattle.psi5_tolerance.specs.Trains.{Psi5Message, FrameSent, Sending, SyncAt, FrameAt, message_of, IdealEdge, edges_sent, ideal_edges, SentBefore, end_of, sent_with, IsFrameSent, IsTrainBehind}
 use Rattle.psi5_tolerance.specs.Traces.{on_data, on_sync, ideal_times}

@@ -4,7 +4,7 @@ use Rattle.std.specs.List.{filter}
 use Rattle.line_base.specs.Edges.{NumberedEdge}
 use Rattle.psi5_frame.specs.Setup.{Settings, fault_of}
 use Rattle.psi5_slots.specs.Setup.{InRange}
-use Rattle.tolerance.specs.Recorded.{AreRecorded, OpensAfter}
+use Rattle.link_tolerance.specs.Recorded.{AreRecorded, OpensAfter}
 use Rattle.psi5_tolerance.specs.Lines.{SyncWindows, data_edges, sync_edges, behind_opening, rises_of, times_of, AreInOrder}
 use Rattle.psi5_tolerance.specs.Trains.{Psi5Message, Sending, IdealEdge, message_of, ideal_edges, IsTrain}
 

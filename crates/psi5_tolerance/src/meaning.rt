@@ -5,7 +5,7 @@ ghost use Rattle.link_math.specs.Manchester.{halves_in};
 ghost use Rattle.psi5_frame.specs.Bursts.{burst_starts, bursts_at_end};
 ghost use Rattle.psi5_frame.specs.Intervals.{is_quiet};
 ghost use Rattle.psi5_frame.specs.Setup.{Settings, fault_of};
-ghost use Rattle.tolerance.specs.Recorded.{IsRecorded};
+ghost use Rattle.link_tolerance.specs.Recorded.{IsRecorded};
 ghost use Rattle.psi5_tolerance.specs.FromFirst.{HeardFrame, IsRestOf, bursts_in, from_first, good_burst, heard_of, said};
 ghost use Rattle.psi5_tolerance.specs.Lines.{SyncWindows, data_edges};
 ghost use Rattle.psi5_tolerance.specs.Places.{place_of, slot_places};

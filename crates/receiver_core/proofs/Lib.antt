@@ -21,3 +21,6 @@ pub mod NoGaps
 pub mod SentTraces
 pub mod Traces
 pub mod Psi5Traces
+pub mod UnnumberedEdges
+pub mod NominalChannels
+pub mod CountedReports

@@ -34,7 +34,8 @@ use Rattle.receiver_core.specs.declared.receiver.Link.TheVariants as link
 use Rattle.receiver_core.specs.declared.receiver.Receiver.{Receiver}
 use Rattle.receiver_core.specs.SentReports.{report, sent_reports}
 use Rattle.receiver_core.specs.SentStretches.{StandsForStretch}
-use Rattle.receiver_core.specs.Channels.{edges_counted, stretch_reports, end_reports, reports_from, so_far}
+use Rattle.line_base.specs.Items.{edges_counted}
+use Rattle.receiver_core.specs.Channels.{stretch_reports, end_reports, reports_from, so_far}
 use Rattle.receiver_core.specs.OpenStretches.{open_with, open_from, open_stretch, resumed}
 use Rattle.receiver_core.specs.Readers.{LinkStandsFor, StandsFor, IsTakeable}
 use Rattle.receiver_core.proofs.OpenStretches.{counted-more, open_stretch-more, so_far-more}

@@ -165,14 +165,16 @@ tooth-tells : (s : downlink.Settings) (stretch : List NumberedEdge) → TellNoGa
 unfolding tooth_so_far
 tooth-tells s stretch = downs-tell (tooth_reading s (rises_of stretch))
 
-stretch-tells : (setup : ChannelSetup) (stretch : List NumberedEdge) → TellNoGap (stretch_reports setup stretch)
+-- the reports of a stretch tell of no gap
+pub stretch-tells : (setup : ChannelSetup) (stretch : List NumberedEdge) → TellNoGap (stretch_reports setup stretch)
 unfolding stretch_reports
 stretch-tells (Sent line s layout form) stretch = sent-none layout form [] (sent_reading s stretch)
 stretch-tells (Psi5 line s slots init) stretch = so_far-none s slots init stretch
 stretch-tells (Spc line s) stretch = spc-tells s stretch
 stretch-tells (Tooth line s) stretch = tooth-tells s stretch
 
-end-tells : (setup : ChannelSetup) (stretch : List NumberedEdge) → TellNoGap (end_reports setup stretch)
+-- nor do those that an end adds
+pub end-tells : (setup : ChannelSetup) (stretch : List NumberedEdge) → TellNoGap (end_reports setup stretch)
 unfolding end_reports
 end-tells (Sent line s layout form) stretch = tt
 end-tells (Psi5 line s slots init) stretch = tell-drop (length (psi5_so_far s slots init stretch)) (psi5_at_end s slots init stretch) (at_end-none s slots init stretch)

@@ -7,7 +7,9 @@ use Rattle.receiver_core.specs.declared.report.Report.{Report}
 use Rattle.receiver_core.specs.declared.report.What.TheVariants as what
 use Rattle.receiver_core.specs.declared.setup.ChannelSetup.{ChannelSetup}
 use Rattle.receiver_core.specs.SentReports.{report}
-use Rattle.receiver_core.specs.Channels.{edges_counted, stretch_reports, end_reports, reports_from, so_far}
+use Rattle.line_base.specs.Items.{edges_counted}
+use Rattle.line_base.proofs.Opens.{edges_counted-append}
+use Rattle.receiver_core.specs.Channels.{stretch_reports, end_reports, reports_from, so_far}
 use Rattle.std.proofs.lemmas.List.{length-append}
 use Rattle.receiver_core.specs.Readers.{open_count}
 use Rattle.receiver_core.specs.OpenStretches.{open_with, open_from, open_stretch, resumed}
@@ -57,11 +59,7 @@ open-more number stretch (item.Cut ∷ items) next = refl
 
 -- the edges of a list and one item more are those of the list and those of the item
 pub counted-more : (items : List Item) (next : Item) → edges_counted (items ++ next ∷ []) ≡ edges_counted items + edges_counted (next ∷ [])
-counted-more [] next = sym (zero-add (edges_counted (next ∷ [])))
-counted-more (item.Edge edge ∷ items) next = ap (λ n. 1 + n) (counted-more items next) ∙ sym (add_assoc 1 (edges_counted items) (edges_counted (next ∷ [])))
-counted-more (item.Gap first count ∷ items) next = ap (λ n. count + n) (counted-more items next) ∙ sym (add_assoc count (edges_counted items) (edges_counted (next ∷ [])))
-counted-more (item.End ∷ items) next = counted-more items next
-counted-more (item.Cut ∷ items) next = counted-more items next
+counted-more items next = edges_counted-append items (next ∷ [])
 
 -- the open edges of a list and one item more
 pub open_stretch-more : (items : List Item) (next : Item) → open_stretch (items ++ next ∷ []) ≡ open_with (edges_counted items) (open_stretch items) next

@@ -3,7 +3,7 @@ use Rattle.std.proofs.Common.{◌≡◌, ℕ, ◌+◌, Bool, Option, None, List,
 use Rattle.line_base.specs.Orderly.{IsOrderly, IsOrderlyFrom, levels_with}
 use Rattle.line_base.specs.declared.edge.Item.{Item}
 use Rattle.line_base.specs.declared.edge.Item.TheVariants as item
-use Rattle.receiver_core.specs.Channels.{edges_counted}
+use Rattle.line_base.specs.Items.{edges_counted}
 use Rattle.receiver_core.specs.Readers.{IsTakeable}
 
 -- a list with an element in it isn't empty

@@ -24,7 +24,7 @@ use Rattle.psi5_downlink.specs.Setup as tooth
 use Rattle.spc_link.specs.Setup as spc
 use Rattle.spc_link.specs.Reading.{spc_reading, spc_ends}
 use Rattle.spc_tolerance.proofs.HeardTrains.{read_honest as read_transactions}
-use Rattle.tooth_tolerance.proofs.ReadTrains.{read_honest}
+use Rattle.psi5_downlink_tolerance.proofs.ReadTrains.{read_honest}
 use Rattle.receiver_core.specs.SpcReports.{answer_report, spc_so_far, spc_end}
 use Rattle.receiver_core.specs.SpcTraces.{IsSpcTrace, spc_from_first, spc_message_in}
 use Rattle.receiver_core.specs.declared.setup.SyncSlots.{SyncSlots}

@@ -14,14 +14,6 @@ use Rattle.receiver_core.specs.ToothReports.{tooth_so_far}
 use Rattle.receiver_core.specs.Psi5Places.{grown}
 use Rattle.receiver_core.specs.Psi5Reports.{psi5_so_far, psi5_at_end}
 
--- how many edges these items are, with those that were lost
-abbrev pub edges_counted : List Item → ℕ
-edges_counted [] = 0
-edges_counted (item.Edge edge ∷ items) = 1 + edges_counted items
-edges_counted (item.Gap first count ∷ items) = count + edges_counted items
-edges_counted (item.End ∷ items) = edges_counted items
-edges_counted (item.Cut ∷ items) = edges_counted items
-
 -- the reports of a stretch of edges, which no gap parts
 unfoldable pub stretch_reports : ChannelSetup → List NumberedEdge → List Report
 stretch_reports (Sent line setup layout serial) edges = sent_reports layout serial [] (sent_reading setup edges)

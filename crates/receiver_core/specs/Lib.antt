@@ -19,3 +19,5 @@ pub mod SentTraces
 pub mod SpcTraces
 pub mod ToothTraces
 pub mod Traces
+pub mod Nominal
+pub mod CountedReceivers

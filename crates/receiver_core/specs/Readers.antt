@@ -12,7 +12,7 @@ use Rattle.receiver_core.specs.SentStretches.{StandsForStretch}
 use Rattle.receiver_core.specs.Psi5Stretches.{StandsForBursts}
 use Rattle.receiver_core.specs.SpcReports.{StandsForAnswers}
 use Rattle.receiver_core.specs.ToothReports.{StandsForRises}
-use Rattle.receiver_core.specs.Channels.{edges_counted}
+use Rattle.line_base.specs.Items.{edges_counted}
 use Rattle.receiver_core.specs.OpenStretches.{open_stretch}
 
 -- the link has this setup and stands for these edges; where there are none, it has ended

@@ -78,6 +78,14 @@ tally_of reports = record {
   lost = sum_by (λ report. lost_in (counts_as report.what)) reports;
 }
 
+-- how many reports a tally has counted: each as one of good, bad, a message or a gap, or not at all
+abbrev pub counted_in : Tally → ℕ
+counted_in tally = tally.good + tally.bad + tally.messages + tally.gaps
+
+-- how many lost edges these reports tell of
+abbrev pub lost_told : List Report → ℕ
+lost_told reports = sum_by (λ report. lost_in (counts_as report.what)) reports
+
 -- each sum of a tally is below 2^64
 pub record HasRoom (tally : Tally) : Type 0 where
   pub good : tally.good < 2 ^ 64

@@ -3,8 +3,8 @@ use Rattle.std.specs.Prelude.{ℕ, Option, None, Some, List, [], ◌∷◌, All,
 use Rattle.line_base.specs.Edges.{NumberedEdge}
 use Rattle.psi5_downlink.specs.declared.down.Down.{Down}
 use Rattle.psi5_downlink.specs.Setup.{Settings}
-use Rattle.tooth_tolerance.specs.Traces.{IsHonest}
-use Rattle.tooth_tolerance.specs.FromFirst.{from_first}
+use Rattle.psi5_downlink_tolerance.specs.Traces.{IsHonest}
+use Rattle.psi5_downlink_tolerance.specs.FromFirst.{from_first}
 use Rattle.receiver_core.specs.declared.message.Message.{Message}
 use Rattle.receiver_core.specs.declared.message.Message.TheVariants as message
 use Rattle.receiver_core.specs.declared.report.Report.{Report}

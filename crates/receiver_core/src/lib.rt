@@ -5,9 +5,11 @@
 //! it. Which report comes when, what a violated rule resets, and what is counted is this project's own.
 #![tactic(auto)]
 
+mod counted_receiver;
 mod init_readers;
 mod meaning;
 mod message;
+mod nominal;
 mod psi5_burst;
 mod psi5_channel;
 mod receiver;
@@ -22,8 +24,13 @@ mod tally;
 mod tests;
 mod tooth_channel;
 
+pub use counted_receiver::CountedReceiver;
 pub use meaning::{reports_grow, reports_have_meaning};
 pub use message::Message;
+pub use nominal::{
+    downlink_messages_have_honest_traces, psi5_messages_have_honest_traces,
+    sent_messages_have_honest_traces, spc_messages_have_honest_traces,
+};
 pub use receiver::Receiver;
 pub use report::{Report, What};
 pub use setup::{ChannelSetup, Serial, SyncSlots};

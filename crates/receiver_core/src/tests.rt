@@ -1,7 +1,7 @@
 //! Whole lists of items with their reports, and setups at the last accepted and the first refused line.
 ghost use Rattle.std.specs.Prelude.{◌≡◌, ◌+◌, ◌≤◌, ◌∷◌, [], None, IfSome};
 ghost use Rattle.receiver_core.specs.Setups.{setup_fault_of};
-ghost use Rattle.receiver_core.specs.Channels.{edges_counted};
+ghost use Rattle.line_base.specs.Items.{edges_counted};
 ghost use Rattle.receiver_core.specs.Readers.{IsTakeable};
 ghost use Rattle.receiver_core.specs.Tallies.{counts_as, lost_in};
 

@@ -17,9 +17,10 @@ use Rattle.sensor_sim.specs.Sims.{IsAccepted, SimState, sim_next, started_by}
 use Rattle.sensor_sim.proofs.HonestRuns.{run-honest}
 use Rattle.sensor_sim.proofs.PlayedMessages.{played-all, played-run}
 use Rattle.sensor_script.specs.Scripts.{ScriptState, script_from, script_next}
-use Rattle.heard_base.specs.AllGood.{AllGood}
-use Rattle.heard_base.specs.Heard.{AreHeard, counted_of, first_messages, is_counted, script_messages}
-use Rattle.heard_base.specs.Scripted.{AsMany, Enough, IsScripted, OneFewer}
+use Rattle.scripts_heard.specs.AllGood.{AllGood}
+use Rattle.sensor_script.specs.Counted.{counted_of, first_messages, is_counted, script_messages}
+use Rattle.scripts_heard.specs.Heard.{AreHeard}
+use Rattle.sensor_script.specs.Scripted.{AsMany, Enough, IsScripted, OneFewer}
 
 -- messages up to a counted one are the first messages of the script
 pub script-is : (script : ScriptState) (count : ℕ) (messages : List Message) → IsScripted script count messages → messages ≡ script_messages script (length messages)

@@ -1,2 +1,16 @@
+pub mod AddedReports
+pub mod ScriptedMessages
+pub mod ScriptedFrames
+pub mod SentFalls
+pub mod SentHeard
+pub mod SpcHeard
+pub mod ToothGaps
+pub mod ToothHeard
+pub mod FirstEdges
+pub mod ScriptBursts
+pub mod SlotCodes
+pub mod SlotReports
+pub mod ToldBursts
+pub mod HeardBursts
 pub mod SentScripts
 pub mod HeardScripts

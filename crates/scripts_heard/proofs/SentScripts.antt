@@ -9,9 +9,9 @@ use Rattle.sensor_sim.specs.Played.{refusal_from}
 use Rattle.sensor_sim.specs.Sims.{SimState, sim_next}
 use Rattle.sensor_sim.proofs.PlayedMessages.{refusal-sent}
 use Rattle.sensor_script.specs.Scripts.{ScriptState, script_next}
-use Rattle.heard_base.specs.Scripted.{AsMany, Enough, IsScripted, OneFewer}
-use Rattle.honest_scripts.specs.Followed.{HasFollowed, OneMore, counted}
-use Rattle.honest_scripts.specs.Taken.{IsSent}
+use Rattle.sensor_script.specs.Scripted.{AsMany, Enough, IsScripted, OneFewer}
+use Rattle.scripts_accepted.specs.Followed.{HasFollowed, OneMore, counted}
+use Rattle.scripts_accepted.specs.Taken.{IsSent}
 
 module _ (setup : ChannelSetup) (first : Lcg) (sends : (script : ScriptState) (state : SimState) (count : ℕ) (g : Lcg) → HasFollowed setup first script state count → count < 100000 → IsSent (sim_next state (script_next script).message g)) where
   -- none of these messages is refused from this state on

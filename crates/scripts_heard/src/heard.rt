@@ -9,14 +9,14 @@ ghost use Rattle.receiver_core.specs.Setups.{setup_fault_of};
 ghost use Rattle.sensor_script.specs.Scripts.{script_from};
 ghost use Rattle.sensor_sim.specs.Played.{played, refusal};
 ghost use Rattle.sensor_sim.specs.Sims.{IsAccepted};
-ghost use Rattle.heard_base.specs.AllGood.{AllGood};
-ghost use Rattle.heard_base.specs.Scripted.{IsScripted};
+ghost use Rattle.scripts_heard.specs.AllGood.{AllGood};
+ghost use Rattle.sensor_script.specs.Scripted.{IsScripted};
 
-use honest_scripts::scripted_messages_are_never_refused;
-use links_heard::{
-    scripted_answers_are_heard, scripted_downlinks_are_heard, scripted_frames_are_heard,
-};
-use psi5_heard::scripted_bursts_are_heard;
+use crate::psi5::scripted_bursts_are_heard;
+use crate::sent::scripted_frames_are_heard;
+use crate::spc::scripted_answers_are_heard;
+use crate::tooth::scripted_downlinks_are_heard;
+use scripts_accepted::scripted_messages_are_never_refused;
 
 /// Does nothing; its contract is a law. A simulator that is handed a script's messages up to a counted one of at most
 /// number 100,000 refuses none of them. And a receiver that gets all edges that are played of them counts as many good

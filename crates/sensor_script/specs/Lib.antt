@@ -1,2 +1,4 @@
 pub mod Draws
 pub mod Scripts
+pub mod Counted
+pub mod Scripted

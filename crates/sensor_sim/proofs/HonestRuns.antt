@@ -19,9 +19,9 @@ use Rattle.psi5_sim.proofs.Psi5Runs as psi5_runs
 use Rattle.spc_sim.specs.SpcSims as spc
 use Rattle.spc_sim.specs.SpcStates.{SpcState}
 use Rattle.spc_sim.proofs.SpcRuns as spc_runs
-use Rattle.tooth_sim.specs.ToothSims as tooth
-use Rattle.tooth_sim.specs.ToothStates.{ToothState}
-use Rattle.tooth_sim.proofs.ToothRuns as tooth_runs
+use Rattle.psi5_downlink_sim.specs.ToothSims as tooth
+use Rattle.psi5_downlink_sim.specs.ToothStates.{ToothState}
+use Rattle.psi5_downlink_sim.proofs.ToothRuns as tooth_runs
 use Rattle.sensor_sim.specs.declared.sim.Sim.TheVariants as sim
 use Rattle.sensor_sim.specs.Sims.{IsAccepted, SimState, lines_of, sim_next, started_by}
 use Rattle.sensor_sim.proofs.LinkRuns.{LinkSends, link-run}

@@ -25,9 +25,9 @@ use Rattle.spc_sim.specs.SpcSims as spc
 use Rattle.spc_sim.specs.SpcSims.{answer_next, edges_sent as spc_sent, silent_next, spc_next}
 use Rattle.spc_sim.specs.SpcStates.{SpcState}
 use Rattle.spc_tolerance.specs.Trains.{Transaction, Answered, Unanswered, ends_at, last_of}
-use Rattle.tooth_sim.specs.ToothSims as tooth
-use Rattle.tooth_sim.specs.ToothSims.{down_next, rises_sent, tooth_next}
-use Rattle.tooth_sim.specs.ToothStates.{ToothState}
+use Rattle.psi5_downlink_sim.specs.ToothSims as tooth
+use Rattle.psi5_downlink_sim.specs.ToothSims.{down_next, rises_sent, tooth_next}
+use Rattle.psi5_downlink_sim.specs.ToothStates.{ToothState}
 use Rattle.sensor_sim.specs.Sims.{SimState, outcome_by}
 use Rattle.sensor_sim.specs.Refusals.{ChangesNothing, past_psi5, past_sent, past_spc, past_tooth}
 

@@ -15,7 +15,7 @@ use Rattle.sent_frame.specs.Setup as frame
 use Rattle.sent_frame.specs.Setup.{InRange}
 use Rattle.spc_link.specs.Setup.{Settings, fault_of}
 use Rattle.spc_link.specs.Reading.{is_after_quiet}
-use Rattle.tolerance.specs.Recorded.{IsRecorded}
+use Rattle.link_tolerance.specs.Recorded.{IsRecorded}
 use Rattle.spc_tolerance.specs.FromFirst.{all_edges, edge_count}
 use Rattle.spc_tolerance.specs.Traces.{AreRecordedAs, IsQuiet, OpensBehind}
 use Rattle.spc_tolerance.specs.Trains.{FitsSetup, IdealEdge, IsSent, SpcMessage, Transaction, Answered, Unanswered, ends_at, edges_sent as ideal_sent, ideal_edges, message_of, trigger_in}

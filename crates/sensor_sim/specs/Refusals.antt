@@ -11,7 +11,7 @@ use Rattle.sent_sim.specs.SentSims.{past_frame}
 use Rattle.sent_sim.specs.SentStates.{SentState}
 use Rattle.spc_sim.specs.SpcSims.{past_answer, past_trigger}
 use Rattle.spc_sim.specs.SpcStates.{SpcState}
-use Rattle.tooth_sim.specs.ToothSims.{past_words}
+use Rattle.psi5_downlink_sim.specs.ToothSims.{past_words}
 use Rattle.sensor_sim.specs.Sims.{SimState}
 use Rattle.sensor_sim.specs.declared.sim.Sim.TheVariants as sim
 

@@ -13,7 +13,7 @@ use Rattle.sent_sim.specs.SentSims as sent
 use Rattle.psi5_sim.specs.Psi5Sims as psi5
 use Rattle.psi5_sim.specs.Psi5States as psi5_states
 use Rattle.spc_sim.specs.SpcSims as spc
-use Rattle.tooth_sim.specs.ToothSims as tooth
+use Rattle.psi5_downlink_sim.specs.ToothSims as tooth
 use Rattle.sensor_sim.specs.declared.sim.Sim.{Sim}
 use Rattle.sensor_sim.specs.declared.sim.Sim.TheVariants as sim
 

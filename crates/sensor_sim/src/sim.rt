@@ -11,7 +11,7 @@ use receiver_core::{ChannelSetup, Message};
 use sent_sim::SentSim;
 use sim_base::{MAX_EDGES, SimFault, Wobble};
 use spc_sim::SpcSim;
-use tooth_sim::ToothSim;
+use psi5_downlink_sim::ToothSim;
 
 /// A channel's simulator. Contracts see by which link it sends, and what the simulator of this link has come to.
 #[derive(Drop)]

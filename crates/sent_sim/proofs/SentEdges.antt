@@ -7,8 +7,8 @@ use Rattle.std.proofs.lemmas.List.{length-append}
 use Rattle.std.proofs.lemmas.List.Sums.{sum_by-append}
 use Rattle.line_base.specs.declared.edge.Edge.{Edge}
 use Rattle.line_base.specs.Orderly.{IsOrderlyFrom, levels_with}
-use Rattle.tolerance.specs.Pulses.{falls_behind}
-use Rattle.tolerance.specs.Recorded.{AreRecorded}
+use Rattle.link_tolerance.specs.Pulses.{falls_behind}
+use Rattle.link_tolerance.specs.Recorded.{AreRecorded}
 use Rattle.sim_base.specs.Recordings.{edge_at, falls_with_rises, pulses_at, recorded_at, recorded_by}
 use Rattle.sim_base.proofs.PulseEdges.{IsBehind, LeaveRoom, fall_times, pulses-last, pulses-level, pulses-orderly, length-edges, level-here, spaced, times-append, times-heard}
 use Rattle.sim_base.proofs.OrderlyEdges.{IsSoFar, has-line, last_time, levels_behind, more_so_far, none_so_far}

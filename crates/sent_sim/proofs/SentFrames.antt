@@ -11,7 +11,7 @@ use Rattle.sent_frame.specs.declared.frame.SentFrame.{SentFrame}
 use Rattle.sent_frame.specs.Setup.{Settings}
 use Rattle.sent_frame.specs.Frames.{ticks_of}
 use Rattle.sent_frame.specs.Reading.{crc_of}
-use Rattle.tolerance.specs.Pulses.{falls_behind, lengths_of}
+use Rattle.link_tolerance.specs.Pulses.{falls_behind, lengths_of}
 use Rattle.sent_tolerance.specs.Trains.{Sending, pulses_sent}
 use Rattle.sim_base.specs.DrawnTicks.{own_ticks}
 use Rattle.sent_sim.specs.SentSims.{begins_at, ends_at, first_falls, frame_sent, frame_words, ideal_of, own_count, past_frame, pause_count}

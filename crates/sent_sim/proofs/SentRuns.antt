@@ -27,9 +27,9 @@ use Rattle.sent_serial.specs.Statuses.{HasTwoBits}
 use Rattle.sent_serial.specs.Sendings.{IsEnhanced, IsShort, sent_from}
 use Rattle.sent_serial.specs.Sendings as serials
 use Rattle.sent_serial.specs.Sendings.Sending.{Frame as FrameSending, Message as MessageSending}
-use Rattle.tolerance.specs.Pulses.{falls_behind}
-use Rattle.tolerance.specs.Recorded.{AreRecorded}
-use Rattle.tolerance.specs.Ticks.{FollowsTick, IsTick}
+use Rattle.link_tolerance.specs.Pulses.{falls_behind}
+use Rattle.link_tolerance.specs.Recorded.{AreRecorded}
+use Rattle.link_tolerance.specs.Ticks.{FollowsTick, IsTick}
 use Rattle.sent_tolerance.specs.Trains.{IsSent, IsTrain, Sending, ideal_falls, pulses_sent}
 use Rattle.sent_tolerance.specs.Traces.{OpensBehind}
 use Rattle.sent_tolerance.proofs.FrameTicks.{setup_range}

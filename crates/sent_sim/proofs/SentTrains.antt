@@ -11,7 +11,7 @@ use Rattle.sent_frame.specs.declared.frame.SentFrame.{SentFrame}
 use Rattle.sent_frame.specs.Setup.{Settings}
 use Rattle.sent_frame.specs.Frames.{ticks_of}
 use Rattle.sent_frame.specs.Reading.{crc_of}
-use Rattle.tolerance.specs.Ticks.{FollowsTick}
+use Rattle.link_tolerance.specs.Ticks.{FollowsTick}
 use Rattle.sent_tolerance.specs.Trains.{FitsSetup, IsSent, IsTrain, Sending, pulses_sent}
 use Rattle.sent_sim.specs.SentSims.{FrameWords, frame_sent, own_count}
 use Rattle.sim_base.specs.DrawnTicks.{next_tick, own_tick, own_ticks, pause_ticks}

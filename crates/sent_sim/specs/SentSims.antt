@@ -6,7 +6,7 @@ use Rattle.sent_frame.specs.declared.frame.SentFrame.{SentFrame}
 use Rattle.sent_frame.specs.Setup.{Settings}
 use Rattle.sent_serial.specs.declared.step.SerialStep.TheVariants as step
 use Rattle.sent_serial.specs.SentStatuses.{statuses_sent}
-use Rattle.tolerance.specs.Pulses.{falls_behind}
+use Rattle.link_tolerance.specs.Pulses.{falls_behind}
 use Rattle.sent_tolerance.specs.Trains.{Sending, pulses_sent}
 use Rattle.receiver_core.specs.declared.message.Message.{Message}
 use Rattle.receiver_core.specs.declared.message.Message.TheVariants as message

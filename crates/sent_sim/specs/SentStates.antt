@@ -2,7 +2,7 @@
 use Rattle.std.specs.Prelude.{◌≡◌, ℕ, ◌*◌, ◌^◌, ◌≤◌, Option, None, Some, List, [], All}
 use Rattle.sent_frame.specs.Setup.{Settings}
 use Rattle.sent_serial.specs.Statuses.{HasTwoBits}
-use Rattle.tolerance.specs.Ticks.{IsTick}
+use Rattle.link_tolerance.specs.Ticks.{IsTick}
 use Rattle.receiver_core.specs.declared.setup.Serial.{Serial}
 use Rattle.receiver_core.specs.declared.setup.Serial.TheVariants as serial
 

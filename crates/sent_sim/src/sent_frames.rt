@@ -1,6 +1,6 @@
 //! The falls of a SENT frame, in ps.
 ghost use Rattle.std.specs.Prelude.{◌≡◌, ◌+◌, ◌*◌, ◌<◌, ◌≤◌, [], All, IsTrue, length, if◌then◌else◌};
-ghost use Rattle.tolerance.specs.Ticks.{IsTick};
+ghost use Rattle.link_tolerance.specs.Ticks.{IsTick};
 ghost use Rattle.sim_base.specs.DrawnTicks.{next_tick, pause_ticks};
 ghost use Rattle.sent_sim.specs.SentSims.{begins_at, ends_at, first_falls, frame_sent, frame_words, ideal_of, past_frame, pause_count};
 ghost use Rattle.sent_sim.specs.SentStates.{IsInTime};

@@ -18,7 +18,7 @@ use Rattle.sent_frame.specs.Frames.{ticks_of}
 use Rattle.sent_frame.proofs.SentTicks.{value_ticks}
 use Rattle.sent_tolerance.specs.FromFirst.{pulse_count}
 use Rattle.sent_tolerance.specs.Trains.{FitsSetup, IsSent, Sending, pulses_sent}
-use Rattle.tolerance.specs.Pulses.{lengths_of}
+use Rattle.link_tolerance.specs.Pulses.{lengths_of}
 
 pub setup_range : (tick jitter nibbles : ℕ) → fault_of tick jitter nibbles ≡ None → InRange tick jitter nibbles
 setup_range tick jitter nibbles accepted = grind (arith, nat_tests)

@@ -14,12 +14,12 @@ use Rattle.sent_frame.specs.Setup.{Settings, InRange}
 use Rattle.sent_frame.specs.Pulses.{Pulse}
 use Rattle.sent_frame.specs.Reading.{Standing, Hunting, PauseDue, CalibrationDue, Carried, values_of, with_value, crc_of, may_calibrate, place_at, checked, due_after, frame_of, frame_from, found}
 use Rattle.sent_frame.proofs.SentTicks.{value_ticks}
-use Rattle.tolerance.specs.Recorded.{IsHeard}
-use Rattle.tolerance.specs.Ticks.{IsTick, IsOwnTick}
-use Rattle.tolerance.proofs.HeardPulses.{calibration_heard, calibrations_steady, never_long, nibble_short, pause_heard, value_heard}
+use Rattle.link_tolerance.specs.Recorded.{IsHeard}
+use Rattle.link_tolerance.specs.Ticks.{IsTick, IsOwnTick}
+use Rattle.link_tolerance.proofs.HeardPulses.{calibration_heard, calibrations_steady, never_long, nibble_short, pause_heard, value_heard}
 use Rattle.sent_tolerance.specs.FromFirst.{pulse_count}
 use Rattle.sent_tolerance.specs.Trains.{IsSent, Sending, pulses_sent, DriftsTo}
-use Rattle.tolerance.specs.Pulses.{lengths_of}
+use Rattle.link_tolerance.specs.Pulses.{lengths_of}
 use Rattle.sent_tolerance.proofs.FrameTicks.{values_in, pause_ticks, ticks_apart, values_small, length_values, length_ticks}
 use Rattle.sent_tolerance.proofs.Steps.{reading, over_pulse, over_frame, found_frame, found_pause, found_steady}
 

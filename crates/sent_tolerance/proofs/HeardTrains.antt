@@ -13,11 +13,11 @@ use Rattle.sent_frame.specs.Setup.{Settings, InRange}
 use Rattle.sent_frame.specs.Pulses.{Fall, Pulse, falls_of, pulses_between}
 use Rattle.sent_frame.specs.Reading.{Standing, Hunting, CalibrationDue, sent_reading}
 use Rattle.sent_frame.proofs.SentTicks.{value_ticks}
-use Rattle.tolerance.specs.Recorded.{AreRecorded}
-use Rattle.tolerance.proofs.HeardPulses.{calibration_heard}
+use Rattle.link_tolerance.specs.Recorded.{AreRecorded}
+use Rattle.link_tolerance.proofs.HeardPulses.{calibration_heard}
 use Rattle.sent_tolerance.specs.FromFirst.{pulse_count, heard_from, heard_of, good_step}
 use Rattle.sent_tolerance.specs.Trains.{Sending, pulses_sent, ideal_falls, IsSent, IsTrain}
-use Rattle.tolerance.specs.Pulses.{falls_behind, lengths_of}
+use Rattle.link_tolerance.specs.Pulses.{falls_behind, lengths_of}
 use Rattle.sent_tolerance.specs.Traces.{IsHonest}
 use Rattle.sent_tolerance.proofs.FrameTicks.{setup_range, values_in, pause_ticks, ticks_apart, values_small, length_pulses}
 use Rattle.sent_tolerance.proofs.Steps.{reading, reading_none}

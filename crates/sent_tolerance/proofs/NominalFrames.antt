@@ -12,12 +12,12 @@ use Rattle.sent_frame.specs.declared.frame.SentFrame.{SentFrame}
 use Rattle.sent_frame.specs.Setup.{Settings, fault_of}
 use Rattle.sent_frame.specs.Pulses.{falls_in}
 use Rattle.sent_frame.specs.Frames.{ticks_of}
-use Rattle.tolerance.specs.Recorded.{AreRecorded, OpensAfter}
-use Rattle.tolerance.specs.Ticks.{IsOwnTick}
+use Rattle.link_tolerance.specs.Recorded.{AreRecorded, OpensAfter}
+use Rattle.link_tolerance.specs.Ticks.{IsOwnTick}
 use Rattle.sent_tolerance.specs.Nominal.{AreJittered, edges_from, edges_of, nominal_falls, told_in_ns}
 use Rattle.sent_tolerance.specs.Traces.{IsHonest}
 use Rattle.sent_tolerance.specs.Trains.{DriftsTo, FitsSetup, IsSent, IsTrain, Sending, ideal_falls}
-use Rattle.tolerance.specs.Pulses.{falls_behind, lengths_of}
+use Rattle.link_tolerance.specs.Pulses.{falls_behind, lengths_of}
 use Rattle.sent_tolerance.proofs.FrameTicks.{setup_range}
 use Rattle.sent_tolerance.proofs.HeardTrains.{frames_of, lengths_sent}
 use Rattle.sent_tolerance.proofs.RecordedFalls.{times_of}

@@ -10,9 +10,9 @@ use Rattle.sent_frame.specs.Setup.{Settings, InRange}
 use Rattle.sent_frame.specs.Pulses.{Pulse}
 use Rattle.sent_frame.specs.Reading.{Hunting, may_calibrate}
 use Rattle.sent_frame.proofs.SentTicks.{value_ticks}
-use Rattle.tolerance.specs.Ticks.{IsTick, IsOwnTick}
-use Rattle.tolerance.proofs.HeardPulses.{never_long, nibble_short}
-use Rattle.tolerance.specs.Pulses.{lengths_of}
+use Rattle.link_tolerance.specs.Ticks.{IsTick, IsOwnTick}
+use Rattle.link_tolerance.proofs.HeardPulses.{never_long, nibble_short}
+use Rattle.link_tolerance.specs.Pulses.{lengths_of}
 use Rattle.sent_tolerance.proofs.FrameTicks.{pause_ticks}
 use Rattle.sent_tolerance.proofs.Steps.{reading, reading_none, over_last, over_pulse, found_false_start, found_none}
 use Rattle.sent_tolerance.proofs.HeardFrames.{AreHeard}

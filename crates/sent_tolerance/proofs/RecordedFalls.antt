@@ -7,9 +7,9 @@ use Rattle.std.proofs.Common.{◌≡◌, ℕ, zero, suc, ◌+◌, List, [], ◌�
 use Rattle.std.proofs.lemmas.List.{drop_all}
 use Rattle.sent_frame.specs.Pulses.{Fall, pulses_after, pulses_between}
 use Rattle.sent_frame.specs.Reading.{place_at}
-use Rattle.tolerance.specs.Recorded.{AreRecorded, IsRecorded}
-use Rattle.tolerance.proofs.HeardPulses.{heard_between}
-use Rattle.tolerance.specs.Pulses.{falls_behind}
+use Rattle.link_tolerance.specs.Recorded.{AreRecorded, IsRecorded}
+use Rattle.link_tolerance.proofs.HeardPulses.{heard_between}
+use Rattle.link_tolerance.specs.Pulses.{falls_behind}
 use Rattle.sent_tolerance.proofs.HeardFrames.{AreHeard}
 
 -- the times of falls

@@ -8,12 +8,12 @@ use Rattle.link_math.specs.Division.{bits_of, divided, number_of, remainder, tak
 use Rattle.link_math.proofs.Thresholds.{both_le_parts}
 use Rattle.sent_frame.specs.Pulses.{Fall, falls_of}
 use Rattle.sent_frame.specs.Reading.{sent_reading}
-use Rattle.tolerance.specs.Recorded.{AreRecorded}
-use Rattle.tolerance.specs.Ticks.{IsNear, IsOwnTick}
+use Rattle.link_tolerance.specs.Recorded.{AreRecorded}
+use Rattle.link_tolerance.specs.Ticks.{IsNear, IsOwnTick}
 use Rattle.sent_tolerance.specs.FromFirst.{heard_from, heard_of}
 use Rattle.sent_tolerance.specs.Traces.{IsHonest}
 use Rattle.sent_tolerance.specs.Trains.{IsTrain, ideal_falls}
-use Rattle.tolerance.specs.Pulses.{falls_behind}
+use Rattle.link_tolerance.specs.Pulses.{falls_behind}
 use Rattle.sent_tolerance.specs.Worked.{cut_frame, whole_frame, worked_edges, worked_reports, worked_sendings, worked_setup}
 use Rattle.sent_tolerance.proofs.HeardTrains.{read_honest}
 

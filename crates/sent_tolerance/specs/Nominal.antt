@@ -4,7 +4,7 @@ use Rattle.line_base.specs.Edges.{NumberedEdge}
 use Rattle.sent_frame.specs.declared.frame.SentFrame.{SentFrame}
 use Rattle.sent_frame.specs.Setup.{Settings}
 use Rattle.sent_frame.specs.Frames.{ticks_of}
-use Rattle.tolerance.specs.Pulses.{falls_behind}
+use Rattle.link_tolerance.specs.Pulses.{falls_behind}
 
 -- the falls of these frames in ns: one at the start, and one at the end of each pulse; a pause has so many ticks, where there is one
 unfoldable pub nominal_falls : Settings → ℕ → ℕ → List SentFrame → List ℕ

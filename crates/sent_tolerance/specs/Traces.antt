@@ -4,7 +4,7 @@ use Rattle.line_base.specs.Edges.{NumberedEdge}
 use Rattle.sent_frame.specs.declared.frame.SentFrame.{SentFrame}
 use Rattle.sent_frame.specs.Setup.{Settings, fault_of}
 use Rattle.sent_frame.specs.Pulses.{Fall, falls_of}
-use Rattle.tolerance.specs.Recorded.{AreRecorded, OpensAfter}
+use Rattle.link_tolerance.specs.Recorded.{AreRecorded, OpensAfter}
 use Rattle.sent_tolerance.specs.Trains.{Sending, ideal_falls, IsTrain}
 
 -- the line was opened after these ideal falls, where it has an edge

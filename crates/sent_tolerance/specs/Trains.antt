@@ -3,8 +3,8 @@ use Rattle.std.specs.Prelude.{◌≡◌, ℕ, ◌<◌, ◌≤◌, true, List, []
 use Rattle.sent_frame.specs.declared.frame.SentFrame.{SentFrame}
 use Rattle.sent_frame.specs.Setup.{Settings}
 use Rattle.sent_frame.specs.Frames.{ticks_of}
-use Rattle.tolerance.specs.Pulses.{falls_behind, lengths_of}
-use Rattle.tolerance.specs.Ticks.{IsTick, IsOwnTick, FollowsTick}
+use Rattle.link_tolerance.specs.Pulses.{falls_behind, lengths_of}
+use Rattle.link_tolerance.specs.Ticks.{IsTick, IsOwnTick, FollowsTick}
 
 -- a frame that is sent: how many ticks its pause has, where there is one; the tick of its calibration pulse; and the own tick of each pulse behind that (in ps)
 pub record Sending : Type 0 where

@@ -11,8 +11,8 @@ use Rattle.line_base.specs.declared.edge.Edge.{Edge}
 use Rattle.line_base.specs.declared.edge.Item.TheVariants as item
 use Rattle.line_base.specs.Orderly.{Alternates, IsOrderlyFrom, levels_with}
 use Rattle.sent_frame.specs.Pulses.{Fall, falls_in}
-use Rattle.tolerance.specs.Pulses.{falls_behind}
-use Rattle.tolerance.specs.Recorded.{AreRecorded}
+use Rattle.link_tolerance.specs.Pulses.{falls_behind}
+use Rattle.link_tolerance.specs.Recorded.{AreRecorded}
 use Rattle.receiver_core.specs.Traces.{numbered}
 use Rattle.sim_base.specs.Recordings.{pulses_at}
 use Rattle.sim_base.proofs.OrderlyEdges.{last_time, levels_behind}

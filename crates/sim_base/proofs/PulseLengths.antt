@@ -8,8 +8,8 @@ use Rattle.std.specs.List.{All}
 use Rattle.std.proofs.lemmas.List.Elements.{All-cons, All-head, All-nil, All-tail}
 use Rattle.std.proofs.lemmas.List.Sums.{sum_by-cons}
 use Rattle.std.proofs.lemmas.Nat.{mul-le}
-use Rattle.tolerance.specs.Pulses.{falls_behind, lengths_of}
-use Rattle.tolerance.specs.Ticks.{IsOwnTick, IsTick}
+use Rattle.link_tolerance.specs.Pulses.{falls_behind, lengths_of}
+use Rattle.link_tolerance.specs.Ticks.{IsOwnTick, IsTick}
 
 -- falls behind a time come behind it
 pub within : (least most time : ℕ) (pulses : List ℕ) → least ≤ time → time + sum pulses ≤ most → All (λ fall. (least ≤ fall) × (fall ≤ most)) (falls_behind time pulses)

@@ -8,8 +8,8 @@ use Rattle.std.proofs.lemmas.List.Sums.{sum_by-cons}
 use Rattle.std.proofs.lemmas.List.{drop_all}
 use Rattle.std.proofs.lemmas.Nat.{mul-le}
 use Rattle.rand_pcg.specs.Lcg.{Lcg}
-use Rattle.tolerance.specs.Pulses.{falls_behind, lengths_of}
-use Rattle.tolerance.specs.Ticks.{IsOwnTick}
+use Rattle.link_tolerance.specs.Pulses.{falls_behind, lengths_of}
+use Rattle.link_tolerance.specs.Ticks.{IsOwnTick}
 use Rattle.sim_base.specs.DrawnTicks.{own_tick, own_ticks}
 use Rattle.sim_base.specs.Wobbles.{behind_word, past, word, words}
 

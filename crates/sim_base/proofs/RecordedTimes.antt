@@ -8,8 +8,8 @@ use Rattle.std.proofs.Common.{◌≡◌, ℕ, zero, suc, ◌+◌, ◌-◌, ◌*�
 use Rattle.std.proofs.lemmas.List.Sums.{sum_by-cons}
 use Rattle.std.proofs.lemmas.Nat.{mod_below}
 use Rattle.rand_pcg.specs.Lcg.{Lcg}
-use Rattle.tolerance.specs.Pulses.{falls_behind}
-use Rattle.tolerance.specs.Recorded.{AreRecorded, IsRecorded}
+use Rattle.link_tolerance.specs.Pulses.{falls_behind}
+use Rattle.link_tolerance.specs.Recorded.{AreRecorded, IsRecorded}
 use Rattle.sim_base.specs.Recordings.{recorded_at, recorded_by}
 use Rattle.sim_base.specs.Wobbles.{behind_word, words}
 

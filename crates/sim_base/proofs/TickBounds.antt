@@ -7,7 +7,7 @@ use Rattle.std.proofs.Common.{ℕ, ◌+◌, ◌-◌, ◌*◌, ◌/◌, ◌%◌, 
 use Rattle.std.specs.List.{All}
 use Rattle.std.proofs.lemmas.List.Elements.{All-map}
 use Rattle.std.proofs.lemmas.Nat.{mod_below}
-use Rattle.tolerance.specs.Ticks.{FollowsTick, IsOwnTick, IsTick}
+use Rattle.link_tolerance.specs.Ticks.{FollowsTick, IsOwnTick, IsTick}
 use Rattle.sim_base.specs.DrawnTicks.{any_tick, next_tick, own_tick, own_ticks, pause_ticks}
 
 follows : (nominal tick most pick : ℕ) → IsTick nominal tick → 200 * most ≤ tick → pick ≤ 2 * most → FollowsTick tick (max (800 * nominal) (min (1200 * nominal) (tick + pick - most)))

@@ -1,8 +1,8 @@
 //! The ticks of a sensor, and the falls that end its pulses.
 ghost use Rattle.std.specs.Prelude.{◌≡◌, ◌+◌, ◌*◌, ◌^◌, ◌<◌, ◌≤◌, ◌++◌, length, sum};
 ghost use Rattle.arrayvec.specs.ArrayVec.{array_vec_len};
-ghost use Rattle.tolerance.specs.Pulses.{falls_behind, lengths_of};
-ghost use Rattle.tolerance.specs.Ticks.{IsOwnTick, IsTick};
+ghost use Rattle.link_tolerance.specs.Pulses.{falls_behind, lengths_of};
+ghost use Rattle.link_tolerance.specs.Ticks.{IsOwnTick, IsTick};
 ghost use Rattle.sim_base.specs.DrawnTicks.{any_tick, next_tick, own_tick, own_ticks, pause_ticks};
 ghost use Rattle.sim_base.specs.Wobbles.{behind_word, past, word, words};
 

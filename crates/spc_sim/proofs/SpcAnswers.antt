@@ -11,7 +11,7 @@ use Rattle.sent_frame.specs.declared.frame.SentFrame.{SentFrame}
 use Rattle.sent_frame.specs.Reading.{covered, crc_of}
 use Rattle.spc_link.specs.Setup.{Settings}
 use Rattle.spc_tolerance.specs.Trains.{Trigger, last_of, pulses_sent, ticks_in}
-use Rattle.tolerance.specs.Pulses.{falls_behind, lengths_of}
+use Rattle.link_tolerance.specs.Pulses.{falls_behind, lengths_of}
 use Rattle.sim_base.specs.DrawnTicks.{any_tick, own_ticks}
 use Rattle.spc_sim.specs.SpcSims.{IsDrawnAnswer, answer_sent, answer_words, inside, own_count, past_answer}
 use Rattle.sim_base.specs.Wobbles.{behind_word, past, word, words}

@@ -13,8 +13,8 @@ use Rattle.sent_frame.specs.Setup.{InRange}
 use Rattle.spc_link.specs.Setup.{Settings}
 use Rattle.spc_tolerance.specs.Traces.{AreRecordedAs, IsQuiet, IsRecordedAs, KeepsQuiet}
 use Rattle.spc_tolerance.specs.Trains.{IdealEdge, TriggerFall, TriggerRise, AnswerFall, AnswerRise, IsSent, SentAnswer, Transaction, Answered, Unanswered, Trigger, answer_edges, answer_falls, edges_sent, ends_at, pulses_sent, trigger_in}
-use Rattle.tolerance.specs.Pulses.{falls_behind}
-use Rattle.tolerance.specs.Recorded.{AreRecorded, IsRecorded}
+use Rattle.link_tolerance.specs.Pulses.{falls_behind}
+use Rattle.link_tolerance.specs.Recorded.{AreRecorded, IsRecorded}
 use Rattle.receiver_core.specs.Traces.{numbered}
 use Rattle.sim_base.specs.Recordings.{edge_at, falls_with_rises, pulses_at, recorded_at, recorded_by}
 use Rattle.spc_sim.specs.SpcSims.{falls_in, next_trigger}

@@ -7,7 +7,7 @@ use Rattle.line_base.specs.declared.edge.Span.{Span}
 use Rattle.sent_frame.specs.declared.frame.SentFrame.{SentFrame}
 use Rattle.spc_link.specs.Setup.{Settings}
 use Rattle.spc_tolerance.specs.Trains.{SentAnswer, Transaction, Answered, Unanswered, Trigger, answer_falls, ends_at, last_of, pulses_sent, trigger_in}
-use Rattle.tolerance.specs.Pulses.{falls_behind}
+use Rattle.link_tolerance.specs.Pulses.{falls_behind}
 use Rattle.receiver_core.specs.declared.message.Message.{Message}
 use Rattle.receiver_core.specs.declared.message.Message.TheVariants as message
 use Rattle.sim_base.specs.declared.sim_fault.SimFault.TheVariants as fault

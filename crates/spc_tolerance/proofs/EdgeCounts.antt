@@ -9,7 +9,7 @@ use Rattle.line_base.specs.Edges.{NumberedEdge}
 use Rattle.line_base.specs.declared.edge.Edge.{Edge}
 use Rattle.spc_link.specs.Setup.{Settings}
 use Rattle.spc_tolerance.specs.Trains.{AnswerFall, AnswerRise, Answered, IdealEdge, IsAnswerSent, IsSent, IsTrain, SentAnswer, SpcMessage, Transaction, Trigger, TriggerFall, TriggerRise, Unanswered, answer_edges, answer_falls, edges_in_answer, edges_sent, ideal_edges, message_of, pulses_sent, ticks_in, values_in}
-use Rattle.tolerance.specs.Pulses.{falls_behind, lengths_of}
+use Rattle.link_tolerance.specs.Pulses.{falls_behind, lengths_of}
 use Rattle.spc_tolerance.specs.Traces.{AreRecordedAs, IsRecordedAs, MayBeMissing}
 use Rattle.spc_tolerance.specs.FromFirst.{all_edges, edge_count, whole_count}
 use Rattle.spc_tolerance.proofs.HeardAnswers.{length_values}

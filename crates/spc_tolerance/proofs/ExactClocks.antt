@@ -9,10 +9,10 @@ use Rattle.std.specs.List.{All}
 use Rattle.line_base.specs.Edges.{NumberedEdge}
 use Rattle.sent_frame.specs.Setup as frame
 use Rattle.spc_link.specs.Setup.{Settings, fault_of}
-use Rattle.tolerance.specs.Recorded.{IsRecorded}
-use Rattle.tolerance.specs.Ticks.{IsOwnTick, IsTick}
+use Rattle.link_tolerance.specs.Recorded.{IsRecorded}
+use Rattle.link_tolerance.specs.Ticks.{IsOwnTick, IsTick}
 use Rattle.spc_tolerance.specs.Trains.{AnswerFall, AnswerRise, Answered, IdealEdge, IsAnswerSent, IsSent, IsTrain, SentAnswer, Transaction, Trigger, TriggerFall, TriggerRise, Unanswered, answer_edges, answer_falls, edges_in_answer, ideal_edges, last_of, trigger_in, values_in}
-use Rattle.tolerance.specs.Pulses.{falls_behind, lengths_of}
+use Rattle.link_tolerance.specs.Pulses.{falls_behind, lengths_of}
 use Rattle.spc_tolerance.specs.Traces.{AreInOrder, AreRecordedAs, IsHonest, KeepsQuiet, OpensOpposite}
 use Rattle.spc_tolerance.specs.Nominal.{KeepsQuietTimes, exact_edge, exact_edges, exact_trace, quiet_behind, rests_at}
 use Rattle.spc_tolerance.proofs.RecordedTimes.{frame_range}

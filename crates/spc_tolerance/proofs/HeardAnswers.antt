@@ -20,11 +20,11 @@ use Rattle.sent_frame.specs.Reading.{Carried, values_of, with_value, checked_ove
 use Rattle.spc_link.specs.declared.step.SpcStep.TheVariants.{Bad, Good}
 use Rattle.spc_link.specs.Setup.{Settings}
 use Rattle.spc_link.specs.Reading.{answer_of, answered, at_fall, frame_of}
-use Rattle.tolerance.specs.Recorded.{IsHeard}
-use Rattle.tolerance.specs.Ticks.{IsTick, IsOwnTick}
-use Rattle.tolerance.proofs.HeardPulses.{calibration_heard, value_heard}
+use Rattle.link_tolerance.specs.Recorded.{IsHeard}
+use Rattle.link_tolerance.specs.Ticks.{IsTick, IsOwnTick}
+use Rattle.link_tolerance.proofs.HeardPulses.{calibration_heard, value_heard}
 use Rattle.spc_tolerance.specs.Trains.{FitsSetup, IsAnswerSent, SentAnswer, Trigger, pulses_sent, values_in}
-use Rattle.tolerance.specs.Pulses.{lengths_of}
+use Rattle.link_tolerance.specs.Pulses.{lengths_of}
 
 -- ---- the values of an answer
 crc_below : (form : CrcForm) (nibbles : List ℕ) → crc_of form nibbles < 16

@@ -9,7 +9,7 @@ use Rattle.std.proofs.lemmas.List.{drop-append-le, drop_all, length-drop, take-a
 use Rattle.line_base.specs.Edges.{NumberedEdge}
 use Rattle.spc_link.specs.Setup.{Settings}
 use Rattle.spc_link.specs.Reading.{spc_at_end}
-use Rattle.tolerance.specs.Recorded.{OpensAfter}
+use Rattle.link_tolerance.specs.Recorded.{OpensAfter}
 use Rattle.spc_tolerance.specs.Trains.{AnswerFall, AnswerRise, IdealEdge, IsSent, IsTrain, SpcMessage, Transaction, TriggerFall, TriggerRise, edges_sent, ideal_edges, ideal_times, message_of}
 use Rattle.spc_tolerance.specs.Traces.{AreInOrder, AreRecordedAs, IsHonest, OpensBehind}
 use Rattle.spc_tolerance.specs.FromFirst.{all_edges, begins_quietly, edge_count, heard_from, heard_of, step_of, steps_from, whole_count}

@@ -12,7 +12,7 @@ use Rattle.sent_frame.specs.Reading.{place_at}
 use Rattle.spc_link.specs.declared.step.SpcStep.TheVariants.{Good, NoAnswer}
 use Rattle.spc_link.specs.Setup.{Settings, fault_of}
 use Rattle.spc_link.specs.Reading.{at_fall, edges_before, found, is_after_quiet, spc_at_end}
-use Rattle.tolerance.specs.Recorded.{OpensAfter}
+use Rattle.link_tolerance.specs.Recorded.{OpensAfter}
 use Rattle.spc_tolerance.specs.Trains.{Answered, IdealEdge, IsAnswerSent, IsSent, IsTriggerSent, SentAnswer, Transaction, Trigger, TriggerRise, Unanswered, answer_edges, answer_falls, edges_in_answer, edges_sent, ideal_edges, ideal_times, message_of, pulses_sent, trigger_in}
 use Rattle.spc_tolerance.specs.Traces.{AreInOrder, AreRecordedAs}
 use Rattle.spc_tolerance.specs.FromFirst.{begins_quietly, edge_count, number_at, step_of}

@@ -4,7 +4,7 @@
 use Rattle.std.proofs.Common.{ℕ, zero, suc, ◌+◌, ◌*◌, ◌≤◌, List, [], ◌∷◌, drop, take, arith}
 use Rattle.line_base.specs.Edges.{NumberedEdge}
 use Rattle.spc_link.specs.Setup.{Settings}
-use Rattle.tolerance.specs.Recorded.{OpensAfter}
+use Rattle.link_tolerance.specs.Recorded.{OpensAfter}
 use Rattle.spc_tolerance.specs.Trains.{AnswerFall, AnswerRise, IdealEdge, SpcMessage, TriggerFall, TriggerRise, ideal_edges, ideal_times}
 use Rattle.spc_tolerance.specs.Traces.{AreRecordedAs, IsHonest, OpensOpposite}
 use Rattle.spc_tolerance.proofs.EdgeCounts.{AreAlternating, alternate_cut, next_opposite, train-alternates}

@@ -7,7 +7,7 @@ use Rattle.line_base.specs.Edges.{NumberedEdge}
 use Rattle.sent_frame.specs.declared.frame.SentFrame.{SentFrame}
 use Rattle.spc_link.specs.Setup.{Settings}
 use Rattle.spc_tolerance.specs.Trains.{Answer, AnswerFall, AnswerRise, Answered, IdealEdge, SpcMessage, Transaction, TriggerFall, TriggerRise, Unanswered, answer_edges, edges_sent, ideal_edges, message_of, pulses_sent}
-use Rattle.tolerance.specs.Pulses.{falls_behind}
+use Rattle.link_tolerance.specs.Pulses.{falls_behind}
 use Rattle.spc_tolerance.specs.Traces.{AreInOrder, AreRecordedAs, IsHonest, OpensBehind, OpensOpposite}
 use Rattle.spc_tolerance.proofs.EdgeCounts.{AreAlternating, alternate_behind, alternate_cut, first_level, messages_of, train-alternates}
 

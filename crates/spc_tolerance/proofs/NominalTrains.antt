@@ -15,7 +15,7 @@ use Rattle.line_base.specs.declared.faults.SetupFault.TheVariants as fault
 use Rattle.sent_frame.specs.declared.frame.SentFrame.{SentFrame}
 use Rattle.sent_frame.specs.Setup as frame
 use Rattle.spc_link.specs.Setup.{Settings, are_apart, are_windows, fault_of, is_behind, is_wide}
-use Rattle.tolerance.specs.Ticks.{IsOwnTick}
+use Rattle.link_tolerance.specs.Ticks.{IsOwnTick}
 use Rattle.spc_tolerance.specs.Trains.{Answer, Answered, BeginsAfter, FitsMessage, FitsSetup, IsAnswerSent, IsSent, IsTrain, IsTriggerSent, LastsInside, Silent, SpcMessage, Transaction, Unanswered, ends_at, message_of, trigger_in, values_in}
 use Rattle.spc_tolerance.specs.Traces.{IsHonest}
 use Rattle.spc_tolerance.specs.Nominal.{KeepsQuietTimes, RestsBefore, middle_of, nominal_answer, nominal_edges, nominal_train, nominal_transaction, nominal_trigger, quiet_behind, rests_at}

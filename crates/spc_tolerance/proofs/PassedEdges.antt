@@ -12,10 +12,10 @@ use Rattle.line_base.specs.declared.edge.Edge.{Edge}
 use Rattle.sent_frame.specs.Setup as frame
 use Rattle.spc_link.specs.Setup.{Settings}
 use Rattle.spc_link.specs.Reading.{is_after_quiet, spc_at_end}
-use Rattle.tolerance.specs.Recorded.{OpensAfter}
-use Rattle.tolerance.specs.Ticks.{IsTick, IsOwnTick}
+use Rattle.link_tolerance.specs.Recorded.{OpensAfter}
+use Rattle.link_tolerance.specs.Ticks.{IsTick, IsOwnTick}
 use Rattle.spc_tolerance.specs.Trains.{AnswerFall, AnswerRise, IdealEdge, IsAnswerSent, SentAnswer, Trigger, TriggerFall, TriggerRise, answer_edges, answer_falls, ideal_times, values_in}
-use Rattle.tolerance.specs.Pulses.{falls_behind, lengths_of}
+use Rattle.link_tolerance.specs.Pulses.{falls_behind, lengths_of}
 use Rattle.spc_tolerance.specs.Traces.{AreInOrder, AreRecordedAs, IsRecordedAs, KeepsQuiet, MayBeMissing}
 use Rattle.spc_tolerance.proofs.RecordedTimes.{IsQuietLong, IsSoon, calibration_soon, delay_soon, fall_passed, rise_passed, value_soon}
 use Rattle.spc_tolerance.proofs.HeardAnswers.{values_small}

@@ -8,10 +8,10 @@ use Rattle.sent_frame.specs.Pulses.{Fall, falls_in, pulses_after}
 use Rattle.sent_frame.specs.Reading.{place_at}
 use Rattle.spc_link.specs.Setup.{Settings}
 use Rattle.spc_link.specs.Reading.{edges_before}
-use Rattle.tolerance.specs.Recorded.{IsRecorded}
-use Rattle.tolerance.proofs.HeardPulses.{heard_between}
+use Rattle.link_tolerance.specs.Recorded.{IsRecorded}
+use Rattle.link_tolerance.proofs.HeardPulses.{heard_between}
 use Rattle.spc_tolerance.specs.Trains.{AnswerRise, IdealEdge, answer_edges}
-use Rattle.tolerance.specs.Pulses.{falls_behind}
+use Rattle.link_tolerance.specs.Pulses.{falls_behind}
 use Rattle.spc_tolerance.specs.Traces.{AreRecordedAs}
 use Rattle.spc_tolerance.specs.FromFirst.{number_at}
 use Rattle.spc_tolerance.proofs.HeardAnswers.{BeginHeard}

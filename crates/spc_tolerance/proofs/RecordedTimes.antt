@@ -18,9 +18,9 @@ use Rattle.spc_link.specs.Setup.{Settings, are_windows, fault_of, is_wide}
 use Rattle.spc_link.specs.Reading.{code_of, is_after_quiet, lasts}
 use Rattle.spc_link.specs.Transactions.{IsInWindow}
 use Rattle.spc_link.proofs.Windows.{window-asks}
-use Rattle.tolerance.specs.Recorded.{IsRecorded}
-use Rattle.tolerance.specs.Ticks.{IsTick, IsOwnTick}
-use Rattle.tolerance.proofs.HeardPulses.{nibble_short}
+use Rattle.link_tolerance.specs.Recorded.{IsRecorded}
+use Rattle.link_tolerance.specs.Ticks.{IsTick, IsOwnTick}
+use Rattle.link_tolerance.proofs.HeardPulses.{nibble_short}
 use Rattle.spc_tolerance.specs.Trains.{IsTriggerSent, LastsInside, Trigger}
 use Rattle.spc_tolerance.specs.Traces.{IsQuiet}
 

@@ -4,7 +4,7 @@ use Rattle.line_base.specs.Edges.{NumberedEdge}
 use Rattle.line_base.specs.declared.edge.Edge.{Edge}
 use Rattle.sent_frame.specs.Setup as frame
 use Rattle.spc_link.specs.Setup.{Settings, fault_of}
-use Rattle.tolerance.specs.Recorded.{IsRecorded, OpensAfter}
+use Rattle.link_tolerance.specs.Recorded.{IsRecorded, OpensAfter}
 use Rattle.spc_tolerance.specs.Trains.{SpcMessage, Transaction, message_of, IdealEdge, TriggerFall, TriggerRise, AnswerFall, AnswerRise, ideal_edges, ideal_times, IsTrain}
 
 -- an ideal edge is recorded as this one: at the same level and, where it has a time, within the jitter

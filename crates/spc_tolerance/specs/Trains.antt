@@ -5,8 +5,8 @@ use Rattle.line_base.specs.declared.edge.Span.{Span}
 use Rattle.sent_frame.specs.declared.frame.SentFrame.{SentFrame}
 use Rattle.sent_frame.specs.Reading.{covered, crc_of}
 use Rattle.spc_link.specs.Setup.{Settings}
-use Rattle.tolerance.specs.Pulses.{falls_behind, lengths_of}
-use Rattle.tolerance.specs.Ticks.{IsTick, IsOwnTick}
+use Rattle.link_tolerance.specs.Pulses.{falls_behind, lengths_of}
+use Rattle.link_tolerance.specs.Ticks.{IsTick, IsOwnTick}
 
 -- ---- messages and how they are sent
 -- what a transaction says: its trigger's code and the answer's frame, or the code alone where nobody answers

@@ -5,7 +5,7 @@ use Rattle.line_base.specs.declared.edge.Item.{Item}
 use Rattle.line_base.specs.declared.edge.Item.TheVariants as item
 use Rattle.receiver_core.specs.declared.setup.ChannelSetup.{ChannelSetup}
 use Rattle.receiver_core.specs.declared.receiver.Receiver.{Receiver}
-use Rattle.receiver_core.specs.Channels.{edges_counted}
+use Rattle.line_base.specs.Items.{edges_counted}
 use Rattle.receiver_core.specs.Readers.{StandsFor, IsTakeable}
 use Rattle.receiver_core.proofs.OpenStretches.{counted-more}
 use Rattle.receiver_core.proofs.tests.reports.Goals as goal

@@ -1,6 +1,6 @@
 -- The receiver stands for the items that were handed to it, and the number is that of their edges.
 use Rattle.std.proofs.Common.{◌≡◌, take}
-use Rattle.receiver_core.specs.Channels.{edges_counted}
+use Rattle.line_base.specs.Items.{edges_counted}
 use Rattle.receiver_core.specs.Readers.{StandsFor}
 use Rattle.receiver_core.proofs.tests.reports.Given as goal
 

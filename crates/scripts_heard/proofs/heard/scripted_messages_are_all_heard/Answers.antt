@@ -6,8 +6,8 @@ use Rattle.receiver_core.specs.Setups.{setup_fault_of}
 use Rattle.sensor_sim.specs.Played.{wobble_of}
 use Rattle.sensor_sim.specs.Sims.{IsAccepted, started_by}
 use Rattle.sensor_script.specs.Scripts.{script_from}
-use Rattle.heard_base.specs.Heard.{AreHeard}
-use Rattle.honest_scripts.specs.Followed.{NotYet}
+use Rattle.scripts_heard.specs.Heard.{AreHeard}
+use Rattle.scripts_accepted.specs.Followed.{NotYet}
 use Rattle.scripts_heard.proofs.HeardScripts.{all-heard}
 use Rattle.scripts_heard.proofs.SentScripts.{never-refused}
 use Rattle.scripts_heard.proofs.heard.scripted_messages_are_all_heard.Goals as goal

@@ -4,7 +4,7 @@ use Rattle.rand_pcg.specs.Lcg.{Lcg}
 use Rattle.sent_sim.specs.SentSims as sent
 use Rattle.psi5_sim.specs.Psi5Sims as psi5
 use Rattle.spc_sim.specs.SpcSims as spc
-use Rattle.tooth_sim.specs.ToothSims as tooth
+use Rattle.psi5_downlink_sim.specs.ToothSims as tooth
 use Rattle.sensor_sim.specs.declared.sim.Sim.TheVariants as sim
 use Rattle.sensor_sim.specs.Sims.{SimState, sim_next}
 use Rattle.sensor_sim.specs.Refusals.{ChangesNothing, past_own_words, past_psi5, past_sent, past_spc, past_tooth}

@@ -1,7 +1,7 @@
 -- What is there and what the pulses that are left come to are all that is promised; and the time doesn't run away.
 use Rattle.std.proofs.Common.{◌≡◌, ◌+◌, ◌*◌, ◌^◌, ◌≤◌, ◌++◌, length, drop, sum}
 use Rattle.arrayvec.specs.ArrayVec.{array_vec_len}
-use Rattle.tolerance.specs.Pulses.{falls_behind}
+use Rattle.link_tolerance.specs.Pulses.{falls_behind}
 use Rattle.sim_base.specs.Wobbles.{past}
 use Rattle.sim_base.proofs.PushedPulses.{AddsPulses, drawn_lengths}
 use Rattle.sim_base.proofs.ticks.push_pulses.Given as goal

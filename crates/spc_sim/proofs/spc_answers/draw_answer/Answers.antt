@@ -3,7 +3,7 @@ use Rattle.std.proofs.Common.{◌≡◌, ℕ, ◌+◌, ◌-◌, ◌*◌, ◌≤�
 use Rattle.std.proofs.lemmas.List.{take_rest}
 use Rattle.line_base.specs.declared.edge.Span.{Span}
 use Rattle.spc_tolerance.proofs.NominalTrains.{delay_wide}
-use Rattle.tolerance.specs.Pulses.{falls_behind, lengths_of}
+use Rattle.link_tolerance.specs.Pulses.{falls_behind, lengths_of}
 use Rattle.sim_base.specs.DrawnTicks.{own_ticks}
 use Rattle.spc_sim.specs.SpcSims.{inside}
 use Rattle.sim_base.specs.Wobbles.{word, words}

@@ -1,7 +1,7 @@
 -- A message is sent, and others up to a counted one; or one is refused.
 use Rattle.std.proofs.Common.{ℕ, ◌<◌, cond, ◌++◌, sym, subst, ◌∙◌}
 use Rattle.sensor_script.specs.Scripts.{script_next}
-use Rattle.heard_base.specs.Heard.{is_counted}
+use Rattle.sensor_script.specs.Counted.{is_counted}
 use Rattle.loop_command.proofs.Turns.{comes-nearer, counted-sent, given-refused, on-err, on-ok, other-sent}
 use Rattle.loop_command.proofs.script_loop.ScriptLoop.+send_counted.Goals as goal
 

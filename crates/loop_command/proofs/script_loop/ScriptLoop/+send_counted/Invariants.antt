@@ -1,6 +1,6 @@
 use Rattle.std.proofs.Common.{if◌then◌else◌}
 use Rattle.sensor_script.specs.Scripts.{script_next}
-use Rattle.heard_base.specs.Heard.{is_counted}
+use Rattle.sensor_script.specs.Counted.{is_counted}
 use Rattle.loop_command.proofs.script_loop.ScriptLoop.+send_counted.Given as goal
 
 abbrev pub decreases-send_counted : goal.decreases-send_counted

@@ -1,7 +1,7 @@
 -- Each kind of item adds what its link answers, and the edges that it counts.
 use Rattle.std.proofs.Common.{◌+◌, [], sym, ap, subst, add-zero, arith}
 use Rattle.line_base.specs.declared.edge.Item.{Item}
-use Rattle.receiver_core.specs.Channels.{edges_counted}
+use Rattle.line_base.specs.Items.{edges_counted}
 use Rattle.receiver_core.specs.Readers.{IsTakeable}
 use Rattle.receiver_core.proofs.OpenStretches.{open-few}
 use Rattle.receiver_core.specs.OpenStretches.{open_stretch}

@@ -1,3 +1,0 @@
-pub mod AllGood
-pub mod Heard
-pub mod Scripted

@@ -1,0 +1,2 @@
+pub mod AllGood
+pub mod Heard

@@ -1,6 +1,0 @@
--- The law is a lemma.
-use Rattle.tolerance.proofs.HeardPulses.{pause_heard}
-use Rattle.tolerance.proofs.pulses.pauses_are_heard.Goals as goal
-
-pub returns : goal.returns
-returns c = pause_heard

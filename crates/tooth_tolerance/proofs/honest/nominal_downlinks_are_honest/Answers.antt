@@ -1,6 +1,0 @@
--- The law is a lemma.
-use Rattle.tooth_tolerance.proofs.NominalTrains.{are_honest}
-use Rattle.tooth_tolerance.proofs.honest.nominal_downlinks_are_honest.Goals as goal
-
-pub returns : goal.returns
-returns c = are_honest

@@ -1,6 +1,0 @@
--- The law is a lemma.
-use Rattle.tooth_tolerance.proofs.NominalTrains.{train_is_honest}
-use Rattle.tooth_tolerance.proofs.honest.trains_have_honest_traces.Goals as goal
-
-pub returns : goal.returns
-returns c = train_is_honest

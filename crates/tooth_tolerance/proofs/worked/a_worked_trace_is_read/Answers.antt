@@ -1,9 +1,0 @@
--- Both laws are lemmas.
-use Rattle.tooth_tolerance.proofs.WorkedTrace.{worked_honest, worked_reading}
-use Rattle.tooth_tolerance.proofs.worked.a_worked_trace_is_read.Goals as goal
-
-pub returns-clause-honest : goal.returns-clause-honest
-returns-clause-honest c = worked_honest
-
-pub returns-clause-read : goal.returns-clause-read
-returns-clause-read c = worked_reading
