@@ -1,16 +1,1 @@
-pub mod Answers
-pub mod Counting
-pub mod OneMore
-pub mod Writing
-pub mod Taking
-pub mod Passing
-pub mod Rows
-pub mod EdgeLists
-pub mod TakeBytes
-pub mod LastLines
-pub mod Fronts
-pub mod Tellings
-pub mod Traces
-pub mod Runs
-pub mod Blocks
-pub mod Steady
+pub mod ToldCommands

@@ -7,8 +7,8 @@ use Rattle.link_words.specs.declared.command.Command.{Command}
 use Rattle.link_words.specs.declared.command.Command.TheVariants.{Decode, Check, Simulate, Loop}
 use Rattle.loop_command.specs.Ended.{LoopEnded}
 use Rattle.simulate_command.specs.Simulations.{WroteHonest, simulation}
-use Rattle.edge_command.specs.Channels.{decoding_task}
-use Rattle.edge_command.specs.Traces.{ToldTraces}
+use Rattle.decode_command.specs.Channels.{decoding_task}
+use Rattle.decode_command.specs.Traces.{ToldTraces}
 
 -- how a command ended on these bytes, by its reason: what is left of them, and what the output has grown by; `decode` has told a line of each report and then the totals, `check` the totals alone, and `simulate` the rows of the messages; what is said of `loop`, which reads nothing, is `CommandLooped`
 abbrev pub CommandEnded : Command → Reason → List ℕ → Option (List ℕ) → Option (List ℕ) → Option (List ℕ) → Type 0

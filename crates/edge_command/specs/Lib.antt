@@ -1,9 +1,2 @@
-pub mod Channels
-pub mod Tellings
-pub mod Writes
-pub mod Followed
-pub mod Runs
-pub mod Traces
 pub mod Ends
-pub mod Counted
 pub mod Explained

@@ -1,12 +1,8 @@
 //! The commands of the receiver: words and bytes in, report lines and a reason out.
 #![tactic(auto)]
 
-mod channel;
-mod channels;
 mod explained;
-mod gathered;
 mod plain;
-mod run;
 #[cfg(test)]
 mod tests;
 

@@ -4,21 +4,16 @@ ghost use Rattle.line_base.specs.Reasons.{status_of};
 ghost use Rattle.line_base.specs.declared.reason.Reason.TheVariants as reason;
 ghost use Rattle.receiver_core.specs.Setups.{setup_fault_of};
 ghost use Rattle.link_words.specs.Commands.{CountsFew, words_read, refused, setups_of_command};
-ghost use Rattle.command_base.specs.Ended.{Ended};
-ghost use Rattle.edge_command.specs.Channels.{decoding_task};
 ghost use Rattle.edge_command.specs.Ends.{CommandEnded, CommandLooped, CommandSends, CommandTold, TakesNothing};
 ghost use Rattle.command_base.specs.Counted.{OutputCounted, SourceCounted};
 ghost use Rattle.line_base.specs.declared.faults.WordFault.{WordFault};
 
-use crate::channels::channels_of;
-use crate::run::Run;
-use command_base::{read_buffer, run_over};
+use decode_command::decode;
 use line_base::{Reason, Sink, Source};
 use link_words::{Command, WordsFault, read_words};
 use loop_command::run_loop;
-use receiver_core::ChannelSetup;
 use simulate_command::simulate;
-use std::alloc::{AllocError, Global};
+use std::alloc::Global;
 
 /// How a run ended.
 #[derive(Clone, Copy, Debug, PartialEq, Eq)]
@@ -27,35 +22,6 @@ pub struct Plain {
     pub status: u8,
     /// The reason.
     pub reason: Reason,
-}
-
-/// Decodes all of a source's bytes on channels of these setups, at most 16 and none with a fault, and puts the
-/// text, with a line for each report where lines are told. Takes its memory before the first pull.
-fn decode_on<S: Source, K: Sink>(
-    alloc: Global,
-    setups: &[ChannelSetup],
-    told: bool,
-    source: &mut S,
-    out: &mut K,
-) -> Reason
-    requires few { length setups.now ≤ 16 }
-    requires no_fault { All (λ setup. setup_fault_of setup ≡ None) setups.now }
-    ensures words { (place : ℕ) (fault : WordFault) → result ≢ reason.Words place fault }
-    ensures memory { result ≡ reason.OutOfMemory → (source.new ≡ source.old) × (out.new ≡ out.old) }
-    ensures ended { IfSome (S.left source.old) (λ bytes. Ended (decoding_task (record { setups = setups.now; told = told })) result bytes (S.left source.new) (K.got out.old) (K.got out.new)) }
-    ensures source { SourceCounted result (S.faults source.old) (S.faults source.new) }
-    ensures output { OutputCounted result (K.faults out.old) (K.faults out.new) }
-{
-    let Ok(channels) = channels_of(alloc, setups) else {
-        return Reason::OutOfMemory;
-    };
-    match read_buffer(alloc) {
-        Ok(mut buffer) => {
-            let mut run = Run::new(channels, told);
-            run_over(&mut run, buffer.as_mut_slice(), source, out)
-        }
-        Err(AllocError) => Reason::OutOfMemory,
-    }
 }
 
 /// What a command came to over a source's bytes.
@@ -78,8 +44,8 @@ fn run_command<S: Source, K: Sink>(
     ensures output { OutputCounted result (K.faults out.old) (K.faults out.new) }
 {
     match command {
-        Command::Decode(setups) => decode_on(alloc, setups.list(), true, source, out),
-        Command::Check(setups) => decode_on(alloc, setups.list(), false, source, out),
+        Command::Decode(setups) => decode(alloc, setups.list(), true, source, out),
+        Command::Check(setups) => decode(alloc, setups.list(), false, source, out),
         Command::Simulate { seed, setup } => simulate(alloc, *seed, setup, source, out),
         Command::Loop { seed, count, setup } => run_loop(*seed, *count, setup, out),
     }

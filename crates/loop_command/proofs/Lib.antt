@@ -1,4 +1,3 @@
-pub mod CountedReports
 pub mod LostEdges
 pub mod ThinnedListeners
 pub mod ScriptTurns

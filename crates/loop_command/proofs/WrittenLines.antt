@@ -11,8 +11,8 @@ use Rattle.receiver_core.specs.Channels.{final}
 use Rattle.sensor_sim.specs.Played.{played, refusal}
 use Rattle.scripts_heard.specs.AllGood.{AllGood}
 use Rattle.sensor_script.specs.Scripted.{IsScripted}
+use Rattle.receiver_core.specs.Tallies.{tally_of}
 use Rattle.loop_command.specs.Ended.{LoopEnded, Wrote}
-use Rattle.loop_command.specs.Listened.{CountsAll}
 use Rattle.loop_command.specs.Loops.{last_time, line_of_edges, loop_line, script_of}
 use Rattle.loop_command.specs.LostRuns.{lost_runs}
 use Rattle.loop_command.specs.Running.{AreOfLoop}
@@ -23,9 +23,9 @@ unfolding loop_line
 line-same count edges last edges' last' all gaps all' gaps' a b c d e f = rw (a, b, c, d, e, f) refl
 
 -- listeners that have counted all tell the line of their edges
-pub line-of : (count : ℕ) (setup : ChannelSetup) (edges : List Edge) (all gaps : Tally) (number last : ℕ) → CountsAll all (final setup (map item.Edge edges)) → CountsAll gaps (final setup (thinned edges (lost_runs (length edges))))
+pub line-of : (count : ℕ) (setup : ChannelSetup) (edges : List Edge) (all gaps : Tally) (number last : ℕ) → all ≡ tally_of (final setup (map item.Edge edges)) → gaps ≡ tally_of (final setup (thinned edges (lost_runs (length edges))))
     → number ≡ length edges → last ≡ last_time edges → loop_line count all number last gaps ≡ line_of_edges setup count edges
-line-of count setup edges all gaps number last every thin long late = line-same count number last (length edges) (last_time edges) all gaps _ _ every.good every.bad long late thin.good thin.bad
+line-of count setup edges all gaps number last every thin long late = line-same count number last (length edges) (last_time edges) all gaps _ _ (ap (λ (t : Tally). t.good) every) (ap (λ (t : Tally). t.bad) every) long late (ap (λ (t : Tally). t.good) thin) (ap (λ (t : Tally). t.bad) thin)
 
 -- so a loop that has written it, or a front of it, has ended
 pub ended-with : (seed count : ℕ) (setup : ChannelSetup) (why : Reason) (got got' : Option (List ℕ)) (edges : List Edge) (line : List ℕ) → AreOfLoop seed count setup edges

@@ -1,9 +1,9 @@
 //! A receiver that gets edges with gaps.
 ghost use Rattle.std.specs.Prelude.{◌≡◌, ◌%◌, ◌&&◌, nat_le, nat_lt};
 
-use crate::listener::Listener;
+use crate::listener::hear;
 use line_base::{Edge, Item};
-use receiver_core::ChannelSetup;
+use receiver_core::{ChannelSetup, CountedReceiver};
 
 /// A lost run begins with each edge whose number is a multiple of this, but with the first edge.
 const RUN_EVERY: u64 = 1_000;
@@ -16,7 +16,7 @@ const RUN_LENGTH: u64 = 50;
 #[derive(Drop)]
 pub struct GapListener {
     /// Gets the edges that aren't lost, and gaps.
-    pub listener: Listener,
+    pub receiver: CountedReceiver,
     /// How many edges there were.
     pub edges: u64,
 }
@@ -34,17 +34,18 @@ impl GapListener {
     ghost use Rattle.line_base.specs.declared.edge.Edge.{Edge};
     ghost use Rattle.receiver_core.specs.declared.setup.ChannelSetup.{ChannelSetup};
     ghost use Rattle.receiver_core.specs.Channels.{final};
+    ghost use Rattle.receiver_core.specs.Tallies.{tally_of};
     ghost use Rattle.receiver_core.specs.Setups.{setup_fault_of};
-    ghost use Rattle.loop_command.specs.Listened.{CountsAll, HasGot, HasGotThinned};
+    ghost use Rattle.loop_command.specs.Listened.{HasGot, HasGotThinned};
     ghost use Rattle.loop_command.specs.LostRuns.{lost_runs};
 
     /// A listener on a channel of this setup, which has no fault, that has got no edge.
-    pub fn new(setup: ChannelSetup) -> GapListener
-        requires { setup_fault_of setup ≡ None }
-        ensures { HasGotThinned result setup [] }
+    pub fn new(setup: &ChannelSetup) -> GapListener
+        requires { setup_fault_of setup.now ≡ None }
+        ensures { HasGotThinned result setup.now [] }
     {
         GapListener {
-            listener: Listener::new(setup),
+            receiver: CountedReceiver::new(setup),
             edges: 0,
         }
     }
@@ -58,9 +59,9 @@ impl GapListener {
         let number = self.edges;
         self.edges = number + 1;
         if !is_lost(number) {
-            self.listener.take(Item::Edge(edge));
+            hear(&mut self.receiver, Item::Edge(edge));
         } else if number % RUN_EVERY == RUN_LENGTH - 1 {
-            self.listener.take(Item::Gap {
+            hear(&mut self.receiver, Item::Gap {
                 first: number - (RUN_LENGTH - 1),
                 count: RUN_LENGTH,
             });
@@ -71,11 +72,11 @@ impl GapListener {
     fn close_run(&mut self)
         requires { (setup : ChannelSetup) × (edges : List Edge) × HasGotThinned self.old setup edges × (length edges < 2 ^ 50) }
         ensures edges { self.new.edges ≡ self.old.edges }
-        ensures got { (setup : ChannelSetup) (edges : List Edge) → HasGotThinned self.old setup edges → HasGot self.new.listener setup (thinned edges (lost_runs (length edges))) }
+        ensures got { (setup : ChannelSetup) (edges : List Edge) → HasGotThinned self.old setup edges → HasGot self.new.receiver setup (thinned edges (lost_runs (length edges))) }
     {
         let open = self.edges % RUN_EVERY;
         if is_lost(self.edges) && open > 0 {
-            self.listener.take(Item::Gap {
+            hear(&mut self.receiver, Item::Gap {
                 first: self.edges - open,
                 count: open,
             });
@@ -86,9 +87,9 @@ impl GapListener {
     pub fn take_end(&mut self)
         requires { (setup : ChannelSetup) × (edges : List Edge) × HasGotThinned self.old setup edges × (length edges < 2 ^ 50) }
         ensures edges { self.new.edges ≡ self.old.edges }
-        ensures counted { (setup : ChannelSetup) (edges : List Edge) → HasGotThinned self.old setup edges → CountsAll self.new.listener.tally (final setup (thinned edges (lost_runs (length edges)))) }
+        ensures counted { (setup : ChannelSetup) (edges : List Edge) → HasGotThinned self.old setup edges → self.new.receiver.tally ≡ tally_of (final setup (thinned edges (lost_runs (length edges)))) }
     {
         self.close_run();
-        self.listener.take(Item::End);
+        hear(&mut self.receiver, Item::End);
     }
 }

@@ -5,16 +5,16 @@ ghost use Rattle.receiver_core.specs.declared.setup.ChannelSetup.{ChannelSetup};
 ghost use Rattle.receiver_core.specs.Setups.{setup_fault_of};
 
 use crate::gaps::GapListener;
-use crate::listener::Listener;
+use crate::listener::hear;
 use line_base::{Edge, Item};
-use receiver_core::ChannelSetup;
+use receiver_core::{ChannelSetup, CountedReceiver};
 
-/// A listener that gets all edges, and one that gets them with gaps. Contracts say by `HaveGot` which edges they have
+/// A receiver that gets all edges, and one that gets them with gaps. Contracts say by `HaveGot` which edges they have
 /// got.
 #[derive(Drop)]
 pub struct Listeners {
     /// Gets all edges.
-    pub all: Listener,
+    pub all: CountedReceiver,
     /// Gets them with gaps.
     pub gaps: GapListener,
     /// The time of the last edge in ns, 0 where there is none.
@@ -22,8 +22,9 @@ pub struct Listeners {
 }
 
 impl Listeners {
-    ghost use Rattle.loop_command.specs.Listened.{AreInRange, CountsAll, HaveGot};
+    ghost use Rattle.loop_command.specs.Listened.{AreInRange, HaveGot};
     ghost use Rattle.receiver_core.specs.Channels.{final};
+    ghost use Rattle.receiver_core.specs.Tallies.{tally_of};
     ghost use Rattle.line_base.specs.Thinned.{thinned};
     ghost use Rattle.line_base.specs.declared.edge.Item.TheVariants as Item;
     ghost use Rattle.loop_command.specs.LostRuns.{lost_runs};
@@ -36,8 +37,8 @@ impl Listeners {
         ensures { HaveGot result setup.now [] }
     {
         Listeners {
-            all: Listener::new(*setup),
-            gaps: GapListener::new(*setup),
+            all: CountedReceiver::new(setup),
+            gaps: GapListener::new(setup),
             last: 0,
         }
     }
@@ -48,7 +49,7 @@ impl Listeners {
         requires in_range { edge.time ≤ 10 ^ 15 }
         ensures { (setup : ChannelSetup) (edges : List Edge) → HaveGot self.old setup edges → HaveGot self.new setup (edges ++ edge ∷ []) }
     {
-        self.all.take(Item::Edge(edge));
+        hear(&mut self.all, Item::Edge(edge));
         self.gaps.take_edge(edge);
         self.last = edge.time;
     }
@@ -68,12 +69,12 @@ impl Listeners {
     /// Both get the end.
     pub fn take_end(&mut self)
         requires { (setup : ChannelSetup) × (edges : List Edge) × HaveGot self.old setup edges × (length edges < 2 ^ 50) }
-        ensures all { (setup : ChannelSetup) (edges : List Edge) → HaveGot self.old setup edges → CountsAll self.new.all.tally (final setup (map Item.Edge edges)) }
-        ensures thinned { (setup : ChannelSetup) (edges : List Edge) → HaveGot self.old setup edges → CountsAll self.new.gaps.listener.tally (final setup (thinned edges (lost_runs (length edges)))) }
+        ensures all { (setup : ChannelSetup) (edges : List Edge) → HaveGot self.old setup edges → self.new.all.tally ≡ tally_of (final setup (map Item.Edge edges)) }
+        ensures thinned { (setup : ChannelSetup) (edges : List Edge) → HaveGot self.old setup edges → self.new.gaps.receiver.tally ≡ tally_of (final setup (thinned edges (lost_runs (length edges)))) }
         ensures edges { (setup : ChannelSetup) (edges : List Edge) → HaveGot self.old setup edges → self.new.gaps.edges ≡ length edges }
         ensures last { (setup : ChannelSetup) (edges : List Edge) → HaveGot self.old setup edges → self.new.last ≡ last_time edges }
     {
-        self.all.take(Item::End);
+        hear(&mut self.all, Item::End);
         self.gaps.take_end();
     }
 }

@@ -33,7 +33,7 @@ pub fn run_loop<K: Sink>(seed: u64, count: u64, setup: &ChannelSetup, out: &mut 
         &listeners.all.tally,
         listeners.gaps.edges,
         listeners.last,
-        &listeners.gaps.listener.tally,
+        &listeners.gaps.receiver.tally,
         &mut line,
     );
     match out.put(line.as_bytes()) {

@@ -12,4 +12,4 @@ mod tooth_rises;
 mod tooth_sim;
 
 pub use honest::tooth_edges_are_honest;
-pub use psi5_downlink_sim::ToothSim;
+pub use tooth_sim::ToothSim;

@@ -1,5 +1,5 @@
 -- The line of a report, and what is read of a text as one; this project's own.
-use Rattle.std.specs.Prelude.{ℕ, ◌<◌, ◌^◌, ◌==◌, ok_or, Result, Ok, List, [], ◌∷◌, codes, decimal, length}
+use Rattle.std.specs.Prelude.{ℕ, ◌<◌, ◌^◌, ◌==◌, ok_or, Result, Ok, List, [], ◌∷◌, ◌++◌, codes, decimal, flat_map, length}
 use Rattle.receiver_core.specs.declared.report.Report.{Report}
 use Rattle.receiver_core.specs.declared.report.What.{What}
 use Rattle.receiver_core.specs.declared.report.What.TheVariants as what
@@ -99,3 +99,11 @@ report_read text = do
   said ← what_read place.1
   _ ← check (length said.1 == 0) End
   Ok (channel.0, record { place = place.0; what = said.0 })
+
+-- the line of a report of the channel with this number, with its LF
+unfoldable pub report_line : ℕ → Report → List ℕ
+report_line channel report = report_text channel report ++ codes "\n"
+
+-- the lines of these reports of the channel with this number
+unfoldable pub lines_of : ℕ → List Report → List ℕ
+lines_of channel reports = flat_map (report_line channel) reports

@@ -8,3 +8,7 @@ unfoldable pub total_text : ℕ → Tally → List ℕ
 total_text channel tally =
     two_digits channel ++ codes " total good " ++ decimal tally.good ++ codes " bad " ++ decimal tally.bad ++ codes " messages " ++ decimal tally.messages
     ++ codes " gaps " ++ decimal tally.gaps ++ codes " lost " ++ decimal tally.lost
+
+-- the total line of the channel with this number, with its LF
+unfoldable pub total_line : ℕ → Tally → List ℕ
+total_line channel tally = total_text channel tally ++ codes "\n"

@@ -1,7 +1,7 @@
 -- What was told of honest traces follows from how the run ended.
 use Rattle.std.specs.Prelude.{map, string_bytes}
 use Rattle.link_words.specs.Commands.{words_read}
-use Rattle.edge_command.proofs.Traces.{told-of-run}
+use Rattle.edge_command.proofs.ToldCommands.{told-of-run}
 use Rattle.edge_command.proofs.plain.run_plain.Goals as goal
 
 pub returns-clause-tolerance : goal.returns-clause-tolerance

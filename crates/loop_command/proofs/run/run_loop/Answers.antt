@@ -19,7 +19,7 @@ returns-in-Ok-clause-ended g c =
     (λ messages scripted. c.scripted_messages_are_all_heard.ensures.sent setup (wobble_of ((c.args.seed + 1) % 2 ^ 64)) c.args.seed c.args.count messages (c.new-running.ensures c.args.count).sent.accepted c.requires.no_fault c.requires.count scripted)
     (λ messages scripted. c.scripted_messages_are_all_heard.ensures.heard setup (wobble_of ((c.args.seed + 1) % 2 ^ 64)) c.args.seed c.args.count messages (c.new-running.ensures c.args.count).sent.accepted c.requires.no_fault c.requires.count scripted)
     (c.as_bytes.ensures.value ∙ c.deref.ensures.0 ∙ c.write_line.ensures
-    ∙ line-of c.args.count setup all.edges c.take_end.new.self.all.tally c.take_end.new.self.gaps.listener.tally c.take_end.new.self.gaps.edges c.take_end.new.self.last (c.take_end.ensures.all setup all.edges all.got) (c.take_end.ensures.thinned setup all.edges all.got) (c.take_end.ensures.edges setup all.edges all.got) (c.take_end.ensures.last setup all.edges all.got))
+    ∙ line-of c.args.count setup all.edges c.take_end.new.self.all.tally c.take_end.new.self.gaps.receiver.tally c.take_end.new.self.gaps.edges c.take_end.new.self.last (c.take_end.ensures.all setup all.edges all.got) (c.take_end.ensures.thinned setup all.edges all.got) (c.take_end.ensures.edges setup all.edges all.got) (c.take_end.ensures.last setup all.edges all.got))
     c.in-Ok.ensures.bytes
 
 pub returns-in-Err-clause-ended : goal.returns-in-Err-clause-ended
@@ -30,5 +30,5 @@ returns-in-Err-clause-ended g c =
     (λ messages scripted. c.scripted_messages_are_all_heard.ensures.sent setup (wobble_of ((c.args.seed + 1) % 2 ^ 64)) c.args.seed c.args.count messages (c.new-running.ensures c.args.count).sent.accepted c.requires.no_fault c.requires.count scripted)
     (λ messages scripted. c.scripted_messages_are_all_heard.ensures.heard setup (wobble_of ((c.args.seed + 1) % 2 ^ 64)) c.args.seed c.args.count messages (c.new-running.ensures c.args.count).sent.accepted c.requires.no_fault c.requires.count scripted)
     (c.as_bytes.ensures.value ∙ c.deref.ensures.0 ∙ c.write_line.ensures
-    ∙ line-of c.args.count setup all.edges c.take_end.new.self.all.tally c.take_end.new.self.gaps.listener.tally c.take_end.new.self.gaps.edges c.take_end.new.self.last (c.take_end.ensures.all setup all.edges all.got) (c.take_end.ensures.thinned setup all.edges all.got) (c.take_end.ensures.edges setup all.edges all.got) (c.take_end.ensures.last setup all.edges all.got))
+    ∙ line-of c.args.count setup all.edges c.take_end.new.self.all.tally c.take_end.new.self.gaps.receiver.tally c.take_end.new.self.gaps.edges c.take_end.new.self.last (c.take_end.ensures.all setup all.edges all.got) (c.take_end.ensures.thinned setup all.edges all.got) (c.take_end.ensures.edges setup all.edges all.got) (c.take_end.ensures.last setup all.edges all.got))
     c.in-Err.ensures.bytes

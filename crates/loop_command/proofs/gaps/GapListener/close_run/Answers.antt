@@ -6,7 +6,7 @@ use Rattle.loop_command.proofs.gaps.GapListener.close_run.Goals.{else-is_lost-vi
 
 pub returns-then-open-gt0-clause-got : goal.returns-then-open-gt0-clause-got
 returns-then-open-gt0-clause-got c = λ setup edges before.
-    got-open c.args.self.now setup edges before c.take.new.self (sym c.is_lost.ensures ∙ c.if-is_lost.true) c.if-open-gt0.true c.take.ensures
+    got-open c.args.self.now setup edges before c.hear.new.receiver (sym c.is_lost.ensures ∙ c.if-is_lost.true) c.if-open-gt0.true c.hear.ensures
 
 pub returns-else-is_lost-clause-got : goal.returns-else-is_lost-clause-got
 returns-else-is_lost-clause-got c = λ setup edges before.

@@ -5,7 +5,7 @@ use Rattle.loop_command.proofs.ThinnedListeners.{counts-final}
 use Rattle.loop_command.proofs.listeners.Listeners.take_end.Goals as goal
 
 pub returns-clause-all : goal.returns-clause-all
-returns-clause-all c = λ setup edges before. counts-final c.take.new.self setup (map item.Edge edges) (c.take.ensures setup (map item.Edge edges) before.all)
+returns-clause-all c = λ setup edges before. counts-final c.hear.new.receiver setup (map item.Edge edges) (c.hear.ensures setup (map item.Edge edges) before.all)
 
 pub returns-clause-thinned : goal.returns-clause-thinned
 returns-clause-thinned c = λ setup edges before. c.take_end.ensures.counted setup edges before.thinned

@@ -1,0 +1,15 @@
+pub mod Answers
+pub mod OneMore
+pub mod Writing
+pub mod Taking
+pub mod Passing
+pub mod Rows
+pub mod EdgeLists
+pub mod TakeBytes
+pub mod LastLines
+pub mod Fronts
+pub mod Tellings
+pub mod Traces
+pub mod Runs
+pub mod Blocks
+pub mod Steady

@@ -1,5 +1,0 @@
-use Rattle.std.proofs.Common.{length}
-use Rattle.loop_command.proofs.listener.+count_each.Given as goal
-
-abbrev pub decreases-count_each : goal.decreases-count_each
-decreases-count_each l = length l.reports.now
