@@ -46,9 +46,13 @@ const TWO_FRAMES: &str = "0,0,1\n300000,0,0\n315000,0,1\n468000,0,0\n483000,0,1\
     1050000,0,0\n1065000,0,1\n1086000,0,0\n1101000,0,1\n1122000,0,0\n1137000,0,1\n1158000,0,0\n\
     1173000,0,1\n1194000,0,0\n1209000,0,1\n1245000,0,0\n1260000,0,1\n";
 
-/// The lines of the two frames.
+/// The line of the first frame.
 const CHECK: &str = "00 19 bad Check\n";
+
+/// The lines of both.
 const BOTH: &str = "00 19 bad Check\n00 37 frame 0 000000\n";
+
+/// The lines of both, and the total line.
 const WHOLE: &str = "00 19 bad Check\n00 37 frame 0 000000\n\
     00 total good 1 bad 1 messages 0 gaps 0 lost 0\n";
 
@@ -71,10 +75,16 @@ const ALL_ROWS: &str = "0,0,1\n299989,0,0\n311989,0,1\n468389,0,0\n480389,0,1\n5
 /// What a loop of two frames tells, by the seed 1.
 const LOOPED: &str = "sent 2 good 2 bad 0 edges 39 last 1557626 thinned good 2 bad 0\n";
 
-/// The commands that the runs are of.
+/// One channel is decoded.
 const DECODE: &str = "decode sent:line=0";
+
+/// Two channels are counted.
 const CHECKS: &str = "check sent:line=0 sent:line=0,crc=legacy";
+
+/// A sensor is simulated.
 const SIMULATE: &str = "simulate 7 sent:line=0";
+
+/// Two frames are sent and read.
 const LOOP: &str = "loop 1 2 sent:line=0";
 
 /// A put failed.
@@ -101,8 +111,12 @@ fn expect(rt: &impl Abort, alloc: Global, run: Run) -> Result<(), AllocError> {
     let puts = Vec::from_slice(alloc, &[put])?;
     let mut source = MemorySource::new(bytes, piece.max(1), pulls);
     let mut sink = MemorySink::new(alloc, 4_096, puts)?;
-    let Plain { status, reason } =
-        run_plain(alloc, &words_of(alloc, words)?, &mut source, &mut sink);
+    let Plain { status, reason } = run_plain(
+        alloc,
+        &words_of(alloc, words)?,
+        &mut source,
+        &mut sink,
+    );
     assert_eq!(rt; reason, ended, "{run:?}");
     assert_eq!(rt; status, ended.status(), "{run:?}");
     assert_eq!(rt; sink.bytes(), written.as_bytes(), "{run:?}");
@@ -137,7 +151,11 @@ fn a_run_ends_at_a_failed_pull_or_put_behind_what_was_told(
             23 => (Reason::ReadFault, BOTH),
             _ => (Reason::Marked, WHOLE),
         };
-        expect(&rt, rt.alloc(), (DECODE, TWO_FRAMES, 20, pull, 0, ended, written))?;
+        expect(
+            &rt,
+            rt.alloc(),
+            (DECODE, TWO_FRAMES, 20, pull, 0, ended, written),
+        )?;
     }
     for run in [
         (DECODE, TWO_FRAMES, 20, 0, 1, CUT, ""),
@@ -150,7 +168,18 @@ fn a_run_ends_at_a_failed_pull_or_put_behind_what_was_told(
         // Pull 40 is within the list, and put 1 is the only one.
         (CHECKS, FRAME, 4, 40, 0, Reason::ReadFault, ""),
         (CHECKS, FRAME, 4, 0, 1, CUT, ""),
-        (CHECKS, "0,0,1\n1,0\n", 7, 0, 1, Reason::Input { line: 2, fault: Field }, ""),
+        (
+            CHECKS,
+            "0,0,1\n1,0\n",
+            7,
+            0,
+            1,
+            Reason::Input {
+                line: 2,
+                fault: Field,
+            },
+            "",
+        ),
         (SIMULATE, MESSAGES, 10, 1, 0, Reason::ReadFault, ""),
         (SIMULATE, MESSAGES, 10, 2, 0, Reason::ReadFault, ""),
         (SIMULATE, MESSAGES, 10, 3, 0, Reason::ReadFault, ""),

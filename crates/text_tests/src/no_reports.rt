@@ -5,7 +5,8 @@ use report_text::{TextFault, read_report};
 // Each constant holds texts, with | between two.
 
 /// A field that is needed is missing or empty, or a word is none of the table.
-const WORDS: &str = "| |00|00 |00  19 gap 1| 00 19 gap 1|00 19|00 19 |00 19  gap 1|00 19 gap|00 19 gap \
+const WORDS: &str =
+    "| |00|00 |00  19 gap 1| 00 19 gap 1|00 19|00 19 |00 19  gap 1|00 19 gap|00 19 gap \
     |00 19 frame|00 19 frame 0|00 19 frame 0 |00 19 frame  0|00 19 one|00 19 two 000\
     |00 19 secure 000|00 19 split 0000|00 19 counter 00|00 19 short 0|00 19 enhanced8 00\
     |00 19 enhanced4 0|00 19 bad|00 19 bad |00 19 raw|00 19 Frame 0 0|00 19 fram 0 0\
@@ -23,7 +24,8 @@ const WORDS: &str = "| |00|00 |00  19 gap 1| 00 19 gap 1|00 19|00 19 |00 19  gap
     |00 19 down 0 0  000|00 19 downs 0 0 000 000|00 19 bad Check\n";
 
 /// A number is misspelled; an LF is no part of a line, and a total line is no report.
-const NUMBERS: &str = "0 19 gap 1|000 19 gap 1|0A 19 gap 1|A0 19 gap 1|-1 19 gap 1|1/ 19 gap 1|1: 19 gap 1\
+const NUMBERS: &str =
+    "0 19 gap 1|000 19 gap 1|0A 19 gap 1|A0 19 gap 1|-1 19 gap 1|1/ 19 gap 1|1: 19 gap 1\
     |00 019 gap 1|00 00 gap 1|00 +1 gap 1|00 -0 gap 1|00 1x gap 1|00 99999999999999999999x gap 1\
     |00 019999999999999999999 gap 1|00 19 gap 01|00 19 gap 00|00 19 gap -1|00 19 gap A\
     |00 19 frame G 0|00 19 frame 00 0|00 19 frame a 0|00 19 frame / 0|00 19 frame : 0\
@@ -52,7 +54,8 @@ const NUMBERS: &str = "0 19 gap 1|000 19 gap 1|0A 19 gap 1|A0 19 gap 1|-1 19 gap
     |00 19 gap 1\n|00 19 one 000\n|00 total good 0 bad 0 messages 0 gaps 0 lost 0";
 
 /// A number is outside its range.
-const RANGES: &str = "16 19 gap 1|99 19 gap 1|20 x|00 18446744073709551616 gap 1|00 99999999999999999999 gap 1\
+const RANGES: &str =
+    "16 19 gap 1|99 19 gap 1|20 x|00 18446744073709551616 gap 1|00 99999999999999999999 gap 1\
     |00 184467440737095516150 gap 1|00 19 gap 0|00 19 gap 18446744073709551616|00 19 gap 0 \
     |00 1 psi5 8 0 0 0 000 000000 -|00 1 psi5 9 0 0 0 000 000000 -|00 1 psi5 8 x\
     |00 1 psi5 - 4 0 0 000 000000 -|00 1 psi5 - F 0 0 000 000000 -\
@@ -68,7 +71,8 @@ const RANGES: &str = "16 19 gap 1|99 19 gap 1|20 x|00 18446744073709551616 gap 1
     |00 19 down 0 0 200 000|00 19 down 0 0 FFF x|00 19 down 0 0 000 200";
 
 /// The text goes on behind its last field.
-const ENDS: &str = "00 19 gap 1 |00 19 gap 1 1|00 19 gap 1  |00 19 frame 0 000000 |00 19 one 000 000\
+const ENDS: &str =
+    "00 19 gap 1 |00 19 gap 1 1|00 19 gap 1  |00 19 frame 0 000000 |00 19 one 000 000\
     |00 19 two 000 000 |00 19 secure 000 00 00|00 19 split 0000 00 |00 19 counter 00 00 00\
     |00 19 short 0 00 0|00 19 enhanced8 00 000 |00 19 enhanced4 0 0000 0|00 19 bad Check \
     |00 19 bad Check 4|00 1 psi5 - 0 0 0 000 000000 - |00 1 psi5 - 0 0 0 000 000000 - 0\
