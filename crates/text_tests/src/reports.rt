@@ -31,10 +31,10 @@ fn burst(slot: Option<u8>, parts: (u8, u8, u8, u16, u32), code: Option<Code>) ->
 }
 
 /// Whether the report is written as this line, and the line is read as the report.
-fn expect_line(rt: &impl Abort, channel: u8, place: u64, what: What, line: &str)
+fn expect_line(rt: &impl Abort, channel: u8, place: u64, what: &What, line: &str)
     requires { channel < 16 }
 {
-    let report = Report { place, what };
+    let report = Report { place, what: *what };
     let mut text = ArrayString::new();
     write_report(channel, &report, &mut text);
     assert_eq!(rt; text.as_str(), line);
@@ -51,11 +51,11 @@ fn each_report_has_its_line_and_is_read_of_it(rt: HostRuntime) {
         (10, 1, "10 1 frame 0 000000"),
         (15, u64::MAX, "15 18446744073709551615 frame 0 000000"),
     ] {
-        expect_line(&rt, channel.min(15), place, zeros, line);
+        expect_line(&rt, channel.min(15), place, &zeros, line);
     }
     let longest = burst(Some(7), (0, 0, 0, 0, 0), Some(Code::Signal(-480)));
     let line = "15 18446744073709551615 psi5 7 0 0 0 000 000000 signal -480";
-    expect_line(&rt, 15, u64::MAX, longest, line);
+    expect_line(&rt, 15, u64::MAX, &longest, line);
     let none = (0, 0, 0, 0, 0);
     let all = [15, 15, 15, 15, 15, 15];
     for (what, line) in [
@@ -188,7 +188,7 @@ fn each_report_has_its_line_and_is_read_of_it(rt: HostRuntime) {
             "03 7 gap 18446744073709551615",
         ),
     ] {
-        expect_line(&rt, 3, 7, what, line);
+        expect_line(&rt, 3, 7, &what, line);
     }
     for (code, line) in [
         (Code::Signal(0), "01 25 psi5 - 0 0 0 000 000000 signal 0"),
@@ -221,7 +221,7 @@ fn each_report_has_its_line_and_is_read_of_it(rt: HostRuntime) {
             "01 25 psi5 - 0 0 0 000 000000 reserved 3FF",
         ),
     ] {
-        expect_line(&rt, 1, 25, burst(None, none, Some(code)), line);
+        expect_line(&rt, 1, 25, &burst(None, none, Some(code)), line);
     }
 }
 
