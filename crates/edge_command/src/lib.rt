@@ -7,8 +7,6 @@ mod explained;
 mod gathered;
 mod plain;
 mod run;
-#[cfg(test)]
-mod tests;
 
 pub use explained::{EXPLAINED_ROOM, explain};
 pub use plain::{Plain, run_plain};
