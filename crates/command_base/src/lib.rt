@@ -7,8 +7,6 @@
 
 mod buffer;
 mod run;
-#[cfg(test)]
-mod tests;
 
 pub use buffer::{READ_SIZE, read_buffer};
 pub use run::{TaskRun, run_over};

@@ -3,8 +3,6 @@
 
 mod explained;
 mod plain;
-#[cfg(test)]
-mod tests;
 
 pub use explained::{EXPLAINED_ROOM, explain};
 pub use plain::{Plain, run_plain};

@@ -20,8 +20,6 @@ mod row;
 mod rows;
 mod stamps;
 mod state;
-#[cfg(test)]
-mod tests;
 mod texts;
 mod units;
 mod wide;

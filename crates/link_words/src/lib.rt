@@ -15,8 +15,6 @@ mod setups;
 mod spans;
 mod spc;
 mod spec;
-#[cfg(test)]
-mod tests;
 mod tooth;
 mod value;
 

@@ -12,8 +12,6 @@ mod listener;
 mod listeners;
 mod run;
 mod script_loop;
-#[cfg(test)]
-mod tests;
 
 pub use laws::{lost_runs_lie_within, scripts_give_messages};
 pub use run::run_loop;

@@ -14,8 +14,6 @@ mod psi5;
 mod reader;
 mod sent;
 mod spc;
-#[cfg(test)]
-mod tests;
 
 pub use fits::message_fits;
 pub use line::message_of;

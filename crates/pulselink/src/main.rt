@@ -6,8 +6,6 @@ mod about;
 mod help;
 mod show;
 mod task;
-#[cfg(test)]
-mod tests;
 
 use arrayvec::ArrayString;
 use edge_command::{EXPLAINED_ROOM, explain, run_plain};

@@ -17,8 +17,6 @@ mod psi5;
 mod rules;
 mod sent;
 mod spc;
-#[cfg(test)]
-mod tests;
 mod totals;
 
 pub use decimal::{digit_of, has_leading_zero, push_decimal};

@@ -7,7 +7,5 @@
 mod command;
 mod rows;
 mod run;
-#[cfg(test)]
-mod tests;
 
 pub use command::simulate;

@@ -9,8 +9,6 @@ mod content;
 mod line_bytes;
 mod list_laws;
 mod reader;
-#[cfg(test)]
-mod tests;
 
 pub use content::{content_of, is_skipped};
 pub use line_bytes::{LINE_LIMIT, LineBytes};
