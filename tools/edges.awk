@@ -1,5 +1,5 @@
-# An edge list, line by line, for join-times and find-setup: all its forms, as docs/FORMATS.md has them. It judges
-# nothing, since the program does.
+# An edge list, line by line, for join-times, find-setup and rows-to-vcd: all its forms, as docs/FORMATS.md has them. It
+# judges nothing, since the program does.
 #
 # read_row(TEXT) takes the next line of the list. Then `row_edges` is how many edges the line gives, `row_time` their
 # time in ns, and edge_line[K] and edge_level[K], K from 1 on, are the line and the level of each.
