@@ -17,8 +17,6 @@ mod sink;
 mod source;
 mod spans;
 mod std_streams;
-#[cfg(test)]
-mod tests;
 pub mod text;
 
 pub use edge::{Edge, Item, MAX_TIME, Span};

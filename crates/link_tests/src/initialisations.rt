@@ -1,17 +1,19 @@
-//! Codes at the borders of their ranges, whole phases, and what a code out of place does.
+//! Codes of PSI5 at the borders of their ranges, whole phases, and what a code out of place does.
 ghost use Rattle.std.specs.Prelude.{◌≤◌};
 
-use super::*;
 use line_base::Rule;
+use psi5_init::{Code, InitReader, InitStep, class_of, code_at};
 use std::alloc::{AllocError, Global};
 use std::test::Fail;
 
 /// The most codes that a test hands to a reader.
 const MOST: usize = 1_000;
 
-/// What a reader of blocks that are sent `repeats` times answers to these codes: each step but `Nothing`, with
-/// the number of its code, counted from 1.
-fn steps(alloc: Global, repeats: u8, codes: &[u16]) -> Result<Vec<(usize, InitStep)>, AllocError>
+/// A step, with the number of its code, counted from 1.
+type Told = (usize, InitStep);
+
+/// What a reader of blocks that are sent `repeats` times answers to these codes, each step but `Nothing`.
+fn steps(alloc: Global, repeats: u8, codes: &[u16]) -> Result<Vec<Told>, AllocError>
     requires some { 1 ≤ repeats }
     requires few { repeats ≤ 16 }
 {
@@ -41,6 +43,11 @@ const ORDER: InitStep = InitStep::Bad(Rule::InitOrder);
 
 const REPEAT: InitStep = InitStep::Bad(Rule::InitRepeat);
 
+/// The blocks 1 and 2 of the values 3 and 10, each two times, and the end.
+const WHOLE: [u16; 9] = [
+    0x200, 0x213, 0x200, 0x213, 0x201, 0x21A, 0x201, 0x21A, 0x1E7,
+];
+
 #[test]
 fn a_code_has_the_class_of_its_range(rt: HostRuntime) {
     let cases: [(u16, Code); 18] = [
@@ -69,38 +76,16 @@ fn a_code_has_the_class_of_its_range(rt: HostRuntime) {
 }
 
 #[test]
-fn a_phase_comes_to_its_blocks_and_its_end(rt: HostRuntime) -> Result<(), Fail> {
-    let whole = [
-        0x200, 0x213, 0x200, 0x213, 0x201, 0x21A, 0x201, 0x21A, 0x1E7,
-    ];
-    let both = [(4, block(1, 3)), (8, block(2, 10)), (9, done(2))];
-    let second = [(7, block(2, 10)), (8, done(1))];
-    let cases: [(&[u16], &[(usize, InitStep)]); 6] = [
-        (&whole, &both),
-        (&whole[1..], &second),
-        (&whole[2..], &[(6, block(2, 10)), (7, done(1))]),
-        (&whole[5..], &[(4, done(0))]),
-        (&whole[7..], &[]),
+fn a_phase_comes_to_its_blocks_and_its_end_and_a_code_out_of_place_is_told(
+    rt: HostRuntime,
+) -> Result<(), Fail> {
+    let cases: [(&[u16], &[Told]); 20] = [
+        (&WHOLE, &[(4, block(1, 3)), (8, block(2, 10)), (9, done(2))]),
+        (&WHOLE[1..], &[(7, block(2, 10)), (8, done(1))]),
+        (&WHOLE[2..], &[(6, block(2, 10)), (7, done(1))]),
+        (&WHOLE[5..], &[(4, done(0))]),
+        (&WHOLE[7..], &[]),
         (&[0x200, 0x213, 0x200, 0x214], &[(4, REPEAT)]),
-    ];
-    for (codes, expected) in cases {
-        let found = steps(rt.alloc(), 2, codes)?;
-        assert_eq!(rt; found.as_slice(), expected, "{codes:?}");
-    }
-    Ok(())
-}
-
-#[test]
-fn a_block_that_is_sent_once_is_told_at_its_first_value(rt: HostRuntime) -> Result<(), Fail> {
-    let found = steps(rt.alloc(), 1, &[0x200, 0x213, 0x201, 0x21A, 0x1E7])?;
-    let expected = [(2, block(1, 3)), (4, block(2, 10)), (5, done(2))];
-    assert_eq!(rt; found.as_slice(), expected.as_slice());
-    Ok(())
-}
-
-#[test]
-fn a_code_out_of_place_is_told_and_read_as_the_first(rt: HostRuntime) -> Result<(), Fail> {
-    let cases: [(&[u16], &[(usize, InitStep)]); 14] = [
         // Outside a phase.
         (&[0x000, 0x1E7, 0x1E8, 0x1F4, 0x1E6, 0x3FF], &[]),
         (&[0x000, 0x201], &[(2, ORDER)]),
@@ -145,23 +130,17 @@ fn a_code_out_of_place_is_told_and_read_as_the_first(rt: HostRuntime) -> Result<
         let found = steps(rt.alloc(), 2, codes)?;
         assert_eq!(rt; found.as_slice(), expected, "{codes:?}");
     }
+    let once = steps(rt.alloc(), 1, &[0x200, 0x213, 0x201, 0x21A, 0x1E7])?;
+    let expected = [(2, block(1, 3)), (4, block(2, 10)), (5, done(2))];
+    assert_eq!(rt; once.as_slice(), expected.as_slice());
     Ok(())
 }
 
 #[test]
-fn a_reset_forgets_the_block(rt: HostRuntime) {
-    let mut reader = InitReader::new(1);
-    assert_eq!(rt; reader.push(Code::Block(1)), InitStep::Nothing);
-    reader.reset();
-    assert_eq!(rt; reader.push(Code::Value(3)), InitStep::Nothing);
-}
-
-#[test]
-fn the_codes_of_a_phase_stand_at_their_places(rt: HostRuntime) {
-    let pairs = [
-        0x200, 0x213, 0x200, 0x213, 0x201, 0x21A, 0x201, 0x21A, 0x1E7,
-    ];
-    for (place, code) in pairs.iter().enumerate() {
+fn the_codes_of_a_phase_stand_at_their_places_and_block_16_is_followed_by_block_1(
+    rt: HostRuntime,
+) -> Result<(), Fail> {
+    for (place, code) in WHOLE.iter().enumerate() {
         let found = code_at(&[3, 10], 2, place as u64);
         assert_eq!(rt; found, Some(*code), "{place}");
     }
@@ -170,10 +149,6 @@ fn the_codes_of_a_phase_stand_at_their_places(rt: HostRuntime) {
     assert_eq!(rt; code_at(&[], 16, 1), None);
     assert_eq!(rt; code_at(&[15], 16, 31), Some(0x21F));
     assert_eq!(rt; code_at(&[15], 16, 32), Some(0x1E7));
-}
-
-#[test]
-fn block_16_is_followed_by_block_1(rt: HostRuntime) -> Result<(), Fail> {
     let nibbles = [0, 1, 2, 3, 4, 5, 6, 7, 8, 9, 10, 11, 12, 13, 14, 15, 9];
     let mut codes = Vec::new(rt.alloc());
     for place in 0..35 {

@@ -1,7 +1,7 @@
 -- One code more.
 use Rattle.std.proofs.Common.{[], ◌∷◌, ◌++◌, arith}
 use Rattle.std.proofs.lemmas.List.{length-append}
-use Rattle.psi5_init.proofs.tests.steps.Goals as goal
+use Rattle.link_tests.proofs.initialisations.steps.Goals as goal
 
 pub loop-before-preserved : goal.loop-before-preserved
 loop-before-preserved c =
