@@ -1,11 +1,10 @@
-//! Sources and sinks through their bounds: in memory, and over devices of std that fail.
+//! Sources and sinks over devices of std, through their bounds. Each device has one kind of fault.
 ghost use Rattle.std.specs.Prelude.{◌<◌, length, OnErr};
 ghost use Rattle.line_base.specs.Causes.{Rose};
 
-use line_base::{Failed, MemorySink, MemorySource, Sink, Source, StdSink, StdSource};
+use line_base::{Failed, Sink, Source, StdSink, StdSource};
 use std::io;
 use std::io::{ErrorKind, Read, Write};
-use std::test::Fail;
 
 // A pull through the bound. Where it fails, the count of faults rose.
 fn pull<S: Source>(source: &mut S, buf: &mut [u8]) -> Result<usize, Failed>
@@ -22,21 +21,19 @@ fn put<K: Sink>(sink: &mut K, bytes: &[u8]) -> Result<(), Failed>
     sink.put(bytes)
 }
 
-/// A device of std that moves at most so many bytes at a call. One call fails and one is interrupted, both counted
-/// from 1. It gives the last byte that began a write, and takes no write that begins with 0.
+/// A device of std that moves at most so many bytes at a call, of which one fails and one is interrupted, counted from
+/// 1. It takes no write that begins with 0. It keeps how many bytes the last call was for.
 #[derive(Drop)]
 struct Device {
     most: usize,
     failing: u64,
     interrupted: u64,
     calls: u64,
-    /// How many bytes the last call was for.
     asked: usize,
-    last: u8,
 }
 
 impl Device {
-    fn call(&mut self, asked: usize) -> io::Result<()> {
+    fn call(&mut self, asked: usize) -> io::Result<usize> {
         self.calls = self.calls.saturating_add(1);
         self.asked = asked;
         if self.calls == self.failing {
@@ -45,31 +42,24 @@ impl Device {
         if self.calls == self.interrupted {
             return Err(io::Error::from(ErrorKind::Interrupted));
         }
-        Ok(())
+        Ok(asked.min(self.most))
     }
 }
 
 impl Read for Device {
     fn read(&mut self, buf: &mut [u8]) -> io::Result<usize> {
-        self.call(buf.len())?;
-        if buf.is_empty() {
-            return Ok(0);
-        }
-        buf[0] = self.last;
-        Ok(buf.len().min(self.most))
+        let count = self.call(buf.len())?;
+        Ok(count.min(buf.len()))
     }
 }
 
 impl Write for Device {
     fn write(&mut self, buf: &[u8]) -> io::Result<usize> {
-        self.call(buf.len())?;
-        match buf.first() {
-            Some(byte) if *byte != 0 => {
-                self.last = *byte;
-                Ok(buf.len().min(self.most))
-            }
-            _ => Ok(0),
+        if buf.first() == Some(&0) {
+            return Ok(0);
         }
+        let count = self.call(buf.len())?;
+        Ok(count.min(buf.len()))
     }
 
     fn flush(&mut self) -> io::Result<()> {
@@ -77,96 +67,55 @@ impl Write for Device {
     }
 }
 
-#[test]
-fn bytes_in_memory_are_given_in_pieces_and_taken_whole(rt: HostRuntime) -> Result<(), Fail> {
-    let bytes = [10, 20, 30].to_vec(rt.alloc())?;
-    let mut source = MemorySource::new(bytes, 2, [2].to_vec(rt.alloc())?);
-    let mut buf = [0; 3];
-    assert_eq!(rt; pull(&mut source, &mut buf), Ok(2));
-    assert_eq!(rt; pull(&mut source, &mut buf), Err(Failed));
-    assert_eq!(rt; buf, [10, 20, 0]);
-    assert_eq!(rt; pull(&mut source, &mut buf), Ok(1));
-    assert_eq!(rt; buf, [30, 20, 0]);
-    let mut sink = MemorySink::new(rt.alloc(), 4, [2].to_vec(rt.alloc())?)?;
-    assert_eq!(rt; put(&mut sink, &[1, 2, 3]), Ok(()));
-    assert_eq!(rt; put(&mut sink, &[4]), Err(Failed), "put 2 fails");
-    assert_eq!(rt; put(&mut sink, &[4, 5]), Err(Failed), "two bytes don't fit");
-    assert_eq!(rt; put(&mut sink, &[6]), Ok(()));
-    assert_eq!(rt; sink.bytes(), [1, 2, 3, 6].as_slice());
-    Ok(())
-}
-
+/// Reads of 5 bytes, of which the second fails and the fourth is interrupted.
 #[test]
 fn a_pull_is_one_read_for_all_that_fits_and_a_fault_is_that_pulls_alone(rt: HostRuntime) {
-    let mut slice = StdSource::new([7, 8, 9].as_slice());
-    let mut buf = [0; 2];
-    assert_eq!(rt; pull(&mut slice, &mut buf), Ok(2));
-    assert_eq!(rt; pull(&mut slice, &mut buf), Ok(1));
-    assert_eq!(rt; buf, [9, 8]);
-    assert_eq!(rt; pull(&mut slice, &mut buf), Ok(0));
     let mut device = Device {
-        most: 4,
+        most: 9,
         failing: 2,
         interrupted: 4,
         calls: 0,
         asked: 0,
-        last: 5,
     };
     let mut source = StdSource::new(&mut device);
-    let mut buf = [0; 4];
-    assert_eq!(rt; pull(&mut source, &mut buf), Ok(4));
-    assert_eq!(rt; buf, [5, 0, 0, 0]);
-    assert_eq!(rt; pull(&mut source, &mut buf), Err(Failed), "read 2 fails");
-    assert_eq!(rt; pull(&mut source, &mut buf), Ok(4));
-    assert_eq!(rt;
-        pull(&mut source, &mut buf),
-        Err(Failed),
-        "an interrupted read is a fault"
-    );
-    assert_eq!(rt; pull(&mut source, &mut buf[..3]), Ok(3));
-    assert_eq!(rt; (device.calls, device.asked), (5, 3));
+    let mut buf = [0; 5];
+    for expected in [Ok(5), Err(Failed), Ok(5), Err(Failed), Ok(5)] {
+        assert!(rt; pull(&mut source, &mut buf) == expected);
+    }
+    assert!(rt; device.calls == 5 && device.asked == 5);
 }
 
+/// The first put needs three writes of a byte. The second fails at its second one, write 5, and the fourth is
+/// interrupted at its first, write 7. In the third a 0 isn't taken, and nothing is written of no bytes.
 #[test]
 fn a_put_hands_over_what_is_left_until_all_is_taken_or_to_a_fault(rt: HostRuntime) {
-    let mut held = Vec::new(rt.alloc());
-    let mut sink = StdSink::new(&mut held);
-    assert_eq!(rt; put(&mut sink, &[7, 8]), Ok(()));
-    assert_eq!(rt; put(&mut sink, &[9]), Ok(()));
-    assert_eq!(rt; held.as_slice(), [7, 8, 9].as_slice());
-    let mut slow = Device {
+    let mut device = Device {
         most: 1,
         failing: 5,
+        interrupted: 7,
+        calls: 0,
+        asked: 0,
+    };
+    let mut sink = StdSink::new(&mut device);
+    let puts: [(&[u8], bool); 6] = [
+        (&[1, 2, 3], true),
+        (&[4, 5, 6], false),
+        (&[7, 0, 8], false),
+        (&[9], false),
+        (&[], true),
+        (&[1, 2, 3, 4], true),
+    ];
+    for (bytes, taken) in puts {
+        assert!(rt; put(&mut sink, bytes).is_ok() == taken, "{bytes:?}");
+    }
+    assert!(rt; device.calls == 11 && device.asked == 1);
+    let mut whole = Device {
+        most: 9,
+        failing: 0,
         interrupted: 0,
         calls: 0,
         asked: 0,
-        last: 0,
     };
-    let mut sink = StdSink::new(&mut slow);
-    assert_eq!(rt; put(&mut sink, &[1, 2, 3]), Ok(()));
-    assert_eq!(rt; put(&mut sink, &[4, 5, 6]), Err(Failed), "write 5 fails");
-    assert_eq!(rt; put(&mut sink, &[7, 0, 8]), Err(Failed), "a 0 isn't taken");
-    assert_eq!(rt; (slow.calls, slow.asked, slow.last), (7, 2, 7));
-    let mut quick = Device {
-        most: 9,
-        failing: 0,
-        interrupted: 2,
-        calls: 0,
-        asked: 0,
-        last: 0,
-    };
-    let mut sink = StdSink::new(&mut quick);
-    assert_eq!(rt; put(&mut sink, &[1, 2, 3]), Ok(()));
-    assert_eq!(rt;
-        put(&mut sink, &[4, 5]),
-        Err(Failed),
-        "an interrupted write is a fault"
-    );
-    assert_eq!(rt; put(&mut sink, &[6, 7, 8, 9]), Ok(()));
-    assert_eq!(rt;
-        put(&mut sink, &[]),
-        Ok(()),
-        "nothing is written of no bytes"
-    );
-    assert_eq!(rt; (quick.calls, quick.asked), (3, 4));
+    assert!(rt; put(&mut StdSink::new(&mut whole), &[1, 2, 3]).is_ok());
+    assert!(rt; whole.calls == 1 && whole.asked == 3);
 }
