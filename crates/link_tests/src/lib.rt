@@ -2,7 +2,7 @@
 //!
 //! Clauses say each result by a definition, and the cases that are run over the program hold most of these. What is
 //! here no command shows: devices of std that fail, numbers and printed names of faults, setups that no words spell,
-//! a frame in ticks, which edges a reader passes, and serial messages status by status.
+//! which edges a reader passes, and serial messages status by status.
 #![tactic(auto)]
 
 #[cfg(test)]

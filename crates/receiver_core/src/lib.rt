@@ -18,8 +18,6 @@ mod setup;
 mod spc_channel;
 mod sync_line;
 mod tally;
-#[cfg(test)]
-mod tests;
 mod tooth_channel;
 
 pub use meaning::{reports_grow, reports_have_meaning};

@@ -2,7 +2,7 @@
 use Rattle.std.proofs.Common.{◌≡◌, take}
 use Rattle.receiver_core.specs.Channels.{edges_counted}
 use Rattle.receiver_core.specs.Readers.{StandsFor}
-use Rattle.receiver_core.proofs.tests.reports.Given as goal
+use Rattle.channel_tests.proofs.items.reports.Given as goal
 
 abbrev pub invariant-loop-item : goal.invariant-loop-item
 invariant-loop-item l = StandsFor l.fn.setup l.receiver (take l.item-index l.items) × (l.number ≡ edges_counted (take l.item-index l.items))

@@ -8,7 +8,7 @@ use Rattle.receiver_core.specs.declared.receiver.Receiver.{Receiver}
 use Rattle.receiver_core.specs.Channels.{edges_counted}
 use Rattle.receiver_core.specs.Readers.{StandsFor, IsTakeable}
 use Rattle.receiver_core.proofs.OpenStretches.{counted-more}
-use Rattle.receiver_core.proofs.tests.reports.Goals as goal
+use Rattle.channel_tests.proofs.items.reports.Goals as goal
 
 -- what stands in the place of an item that isn't there
 no_item : Item
