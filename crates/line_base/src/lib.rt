@@ -19,8 +19,6 @@ mod sink;
 mod source;
 mod spans;
 mod std_streams;
-#[cfg(test)]
-mod tests;
 pub mod text;
 
 pub use archive_fault::ArchiveFault;

@@ -14,8 +14,6 @@ mod manchester;
 mod message_check;
 mod nibble_check;
 mod sent;
-#[cfg(test)]
-mod tests;
 mod tooth_gap;
 
 pub use frame_check::{crc3, parity};

@@ -8,8 +8,6 @@
 
 mod bounds;
 mod pulses;
-#[cfg(test)]
-mod tests;
 
 pub use bounds::{
     drift_ends_at_a_200th, jitter_ends_at_its_bound, own_ticks_end_at_a_400th, ticks_end_at_a_fifth,

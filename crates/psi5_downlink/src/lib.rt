@@ -12,8 +12,6 @@ mod meaning;
 mod reader;
 mod setup;
 mod step;
-#[cfg(test)]
-mod tests;
 mod verdict;
 
 pub use bits::down_bits;

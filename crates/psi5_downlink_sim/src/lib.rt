@@ -6,8 +6,6 @@
 #![tactic(auto)]
 
 mod honest;
-#[cfg(test)]
-mod tests;
 mod tooth_rises;
 mod tooth_sim;
 

@@ -13,9 +13,6 @@ use receiver_core::Message;
 use sim_base::{MAX_EDGES, MAX_IDEAL, Pulses, SimFault, Wobble, opening, push_edges};
 use std::marker::Model;
 
-#[cfg(test)]
-mod tests;
-
 /// Which part of the nominal period a pulse lasts: a tenth.
 const PULSE_PART: u64 = 10;
 

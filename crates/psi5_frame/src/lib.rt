@@ -16,8 +16,6 @@ mod meaning;
 mod open;
 mod reader;
 mod setup;
-#[cfg(test)]
-mod tests;
 
 pub use bits::{bits_of, edges_of};
 pub use burst::{Burst, BurstStep, Payload};

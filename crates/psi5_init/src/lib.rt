@@ -11,8 +11,6 @@ mod meaning;
 mod phase;
 mod reader;
 mod step;
-#[cfg(test)]
-mod tests;
 
 pub use code::{Code, class_of};
 pub use meaning::{phases_are_read, steps_break_two_rules, steps_stay};

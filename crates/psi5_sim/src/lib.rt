@@ -8,8 +8,6 @@
 mod bursts;
 mod honest;
 mod psi5_sim;
-#[cfg(test)]
-mod tests;
 
 pub use honest::psi5_edges_are_honest;
 pub use psi5_sim::Psi5Sim;

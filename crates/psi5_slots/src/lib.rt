@@ -9,8 +9,6 @@ mod meaning;
 mod placed;
 mod reader;
 mod setup;
-#[cfg(test)]
-mod tests;
 
 pub use meaning::places_have_meaning;
 pub use placed::Placed;

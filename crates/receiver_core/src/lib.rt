@@ -20,8 +20,6 @@ mod setup;
 mod spc_channel;
 mod sync_line;
 mod tally;
-#[cfg(test)]
-mod tests;
 mod tooth_channel;
 
 pub use counted_receiver::CountedReceiver;

@@ -7,8 +7,6 @@
 mod draws;
 mod laws;
 mod script;
-#[cfg(test)]
-mod tests;
 
 pub use laws::drawn_codes_are_signals;
 pub use script::Script;

@@ -10,8 +10,6 @@ mod honest;
 mod played;
 mod refusals;
 mod sim;
-#[cfg(test)]
-mod tests;
 mod transactions;
 
 pub use honest::{setups_are_accepted, simulated_edges_are_honest};

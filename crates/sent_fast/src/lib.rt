@@ -8,8 +8,6 @@
 mod counter;
 mod layout;
 mod packing;
-#[cfg(test)]
-mod tests;
 mod unpacking;
 
 pub use counter::CounterWatch;

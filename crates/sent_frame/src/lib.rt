@@ -13,8 +13,6 @@ mod position;
 mod pulses;
 mod reader;
 mod setup;
-#[cfg(test)]
-mod tests;
 mod values;
 
 pub use crc::{Cover, checked_frame};

@@ -15,8 +15,6 @@ mod sending;
 mod short;
 mod status;
 mod step;
-#[cfg(test)]
-mod tests;
 
 pub use encoders::{enhanced_bits, short_bits};
 pub use enhanced::EnhancedReader;

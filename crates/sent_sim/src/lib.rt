@@ -7,8 +7,6 @@
 mod honest;
 mod sent_frames;
 mod sent_sim;
-#[cfg(test)]
-mod tests;
 
 pub use honest::sent_edges_are_honest;
 pub use sent_sim::SentSim;

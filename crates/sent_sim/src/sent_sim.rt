@@ -18,9 +18,6 @@ use sim_base::{
 };
 use std::marker::Model;
 
-#[cfg(test)]
-mod tests;
-
 /// A SENT sensor. Contracts see its setup, when its last fall was ideal, the tick of its last frame and the
 /// statuses of a serial message that are left to send.
 #[derive(Drop)]

@@ -7,8 +7,6 @@
 mod nibbles;
 mod recording;
 mod sim_fault;
-#[cfg(test)]
-mod tests;
 mod ticks;
 mod wobble;
 

@@ -13,8 +13,6 @@ mod reader;
 mod setup;
 mod state;
 mod step;
-#[cfg(test)]
-mod tests;
 mod trigger;
 
 pub use meaning::{steps_grow, steps_have_meaning, windows_are_codes};

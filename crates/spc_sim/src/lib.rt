@@ -8,8 +8,6 @@
 mod honest;
 mod spc_answers;
 mod spc_sim;
-#[cfg(test)]
-mod tests;
 
 pub use honest::spc_edges_are_honest;
 pub use spc_sim::SpcSim;
