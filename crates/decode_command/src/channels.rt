@@ -21,7 +21,10 @@ use std::alloc::{AllocError, Global};
 
 /// Channels of these setups, none of which has a fault, that have taken no edge; or the error where there is
 /// no memory for them.
-pub fn channels_of(alloc: Global, setups: &[ChannelSetup]) -> Result<Vec<CountedReceiver>, AllocError>
+pub fn channels_of(
+    alloc: Global,
+    setups: &[ChannelSetup],
+) -> Result<Vec<CountedReceiver>, AllocError>
     requires { All (λ setup. setup_fault_of setup ≡ None) setups.now }
     ensures setups { IfOk result (λ channels. setups_of channels.items ≡ setups.now) }
     ensures follow { IfOk result (λ channels. AllFollow channels.items []) }

@@ -181,19 +181,10 @@ digit_fits (suc lines) (suc k) number digit lt small none few =
     let q : digit * 2 ^ (2 * suc k) ≡ digit * (4 * 2 ^ (2 * k)) = ap (λ (power : ℕ). digit * power) (four k) in
     omega arith
 
--- the edge of a line, by its digit
-pub no_edge_told : (time line number : ℕ) → line < 16 → number / 2 ^ (2 * line) % 4 ≡ 0 → [] ≡ filter (λ edge. edge.line == line) (edges_from 0 time (levels_told 16 number))
-no_edge_told time line number lt none =
-    edge_on_line time line (levels_told 16 number) None (level_at 16 line number lt ∙ ap level_told none)
-
 pub digit_level : (digit : ℕ) → 0 < digit → level_told digit ≡ Some (nat_lt 1 digit)
 digit_level zero lt = absurd (omega arith)
 digit_level (suc zero) lt = refl
 digit_level (suc (suc digit)) lt = ap Some (sym (lt-ltb 1 (suc (suc digit)) (omega arith)))
-
-pub edge_told : (time line number : ℕ) → line < 16 → 0 < number / 2 ^ (2 * line) % 4 → record { line = line; time = time; level = nat_lt 1 (number / 2 ^ (2 * line) % 4) } ∷ [] ≡ filter (λ edge. edge.line == line) (edges_from 0 time (levels_told 16 number))
-edge_told time line number lt some =
-    edge_on_line time line (levels_told 16 number) (Some (nat_lt 1 (number / 2 ^ (2 * line) % 4))) (level_at 16 line number lt ∙ digit_level _ some)
 
 -- a level's digit
 pub digit_told : (level : Bool) → level_told (digit_for level) ≡ Some level

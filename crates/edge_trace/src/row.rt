@@ -1,6 +1,5 @@
 //! What a line of input gives: the edges of its row.
-ghost use Rattle.std.specs.Prelude.{◌≡◌, ◌+◌, ◌<◌, ◌≤◌, ◌==◌, List, [], ◌∷◌, ◌++◌, length, filter, Some};
-ghost use Rattle.std.specs.Option.{option_to_list};
+ghost use Rattle.std.specs.Prelude.{◌≡◌, ◌+◌, ◌<◌, ◌≤◌, ◌==◌, List, [], ◌∷◌, ◌++◌, length, Some};
 ghost use Rattle.edge_trace.specs.RowEdges.{AreBelow, digit_for};
 
 use crate::edges_left::EdgesLeft;
@@ -57,23 +56,6 @@ impl RowEdges {
         self.levels == 0
     }
 
-    /// How many edges there are.
-    #[inline]
-    pub fn len(&self) -> usize
-        ensures value { result ≡ length self.now }
-        ensures few { result ≤ 16 }
-    {
-        let mut count = 0;
-        let mut rest = self.levels;
-        'lines: for _line in 0..16usize {
-            if rest % 4 > 0 {
-                count += 1;
-            }
-            rest /= 4;
-        }
-        count
-    }
-
     /// The edges, to be taken one after another.
     #[inline]
     pub fn edges(&self) -> EdgesLeft
@@ -84,23 +66,6 @@ impl RowEdges {
             levels: self.levels,
             line: 0,
         }
-    }
-
-    /// The edge of a line, if it has one.
-    #[inline]
-    pub fn edge_on(&self, line: u8) -> Option<Edge>
-        ensures { option_to_list result ≡ filter (λ edge. edge.line == line) self.now }
-    {
-        let time = self.time;
-        if line > 15 {
-            return None;
-        }
-        let digit = (self.levels >> (2 * u32::from(line))) % 4;
-        if digit == 0 {
-            return None;
-        }
-        let level = digit > 1;
-        Some(Edge { line, time, level })
     }
 
     /// Adds an edge at the end. Those before it are of lower lines and have its time.

@@ -6,9 +6,8 @@ ghost use Rattle.line_base.specs.Streams.{PutAppends};
 
 use crate::std_streams::write_each;
 use crate::{Failed, Sink};
-use std::fs;
 use std::rt::Files;
-use std::str;
+use std::{fs, str};
 
 /// The file `lane-NN.txt` of the current folder as a sink, NN being the lane's number in two decimal digits. It is
 /// created, or emptied, at the first put. It tells no content.

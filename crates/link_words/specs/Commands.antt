@@ -111,10 +111,3 @@ CountsFew (Decode setups) = Unit {0}
 CountsFew (Check setups) = Unit {0}
 CountsFew (Simulate seed setup) = Unit {0}
 CountsFew (Loop seed count setup) = count ≤ 100000
-
--- the command writes a line of each report
-abbrev pub tells_reports : Command → Bool
-tells_reports (Decode setups) = true
-tells_reports (Check setups) = false
-tells_reports (Simulate seed setup) = false
-tells_reports (Loop seed count setup) = false

@@ -1,7 +1,7 @@
 //! The commands, and the words that they take.
 ghost use Rattle.std.specs.Prelude.{◌≡◌, ◌≤◌, ◌<◌, None, IfOk, All, length, map, string_bytes};
 ghost use Rattle.receiver_core.specs.Setups.{setup_fault_of};
-ghost use Rattle.link_words.specs.Commands.{CountsFew, command_fault, count_at, spec_at, last_spec_at, loop_behind, loop_read, seed_at, setups_read, simulation_read, words_read, setups_of_command, tells_reports};
+ghost use Rattle.link_words.specs.Commands.{CountsFew, command_fault, count_at, spec_at, last_spec_at, loop_behind, loop_read, seed_at, setups_read, simulation_read, words_read, setups_of_command};
 
 use crate::seed::seed_of;
 use crate::setups::{MAX_CHANNELS, Setups};
@@ -38,30 +38,6 @@ pub enum Command {
         /// The channel.
         setup: ChannelSetup,
     },
-}
-
-impl Command {
-    /// The setups of its channels, 1 to 16, numbered from 0 in the order of their SPECs.
-    pub fn setups(&self) -> &[ChannelSetup]
-        ensures list { result.now ≡ setups_of_command self.now }
-        ensures some { 1 ≤ length result.now }
-        ensures few { length result.now ≤ 16 }
-    {
-        match self {
-            Command::Decode(setups) | Command::Check(setups) => setups.list(),
-            Command::Simulate { setup, .. } | Command::Loop { setup, .. } => slice::from_ref(setup),
-        }
-    }
-
-    /// Whether a line is written of each report: by `Decode` alone.
-    pub fn tells_reports(&self) -> bool
-        ensures { result ≡ tells_reports self.now }
-    {
-        match self {
-            Command::Decode(_) => true,
-            Command::Check(_) | Command::Simulate { .. } | Command::Loop { .. } => false,
-        }
-    }
 }
 
 /// The first word that is refused.

@@ -61,10 +61,13 @@ impl GapListener {
         if !is_lost(number) {
             hear(&mut self.receiver, Item::Edge(edge));
         } else if number % RUN_EVERY == RUN_LENGTH - 1 {
-            hear(&mut self.receiver, Item::Gap {
-                first: number - (RUN_LENGTH - 1),
-                count: RUN_LENGTH,
-            });
+            hear(
+                &mut self.receiver,
+                Item::Gap {
+                    first: number - (RUN_LENGTH - 1),
+                    count: RUN_LENGTH,
+                },
+            );
         }
     }
 
@@ -76,10 +79,13 @@ impl GapListener {
     {
         let open = self.edges % RUN_EVERY;
         if is_lost(self.edges) && open > 0 {
-            hear(&mut self.receiver, Item::Gap {
-                first: self.edges - open,
-                count: open,
-            });
+            hear(
+                &mut self.receiver,
+                Item::Gap {
+                    first: self.edges - open,
+                    count: open,
+                },
+            );
         }
     }
 

@@ -6,12 +6,12 @@ ghost use Rattle.sensor_sim.specs.Sims.{sim_next, started_by};
 
 use arrayvec::ArrayVec;
 use line_base::Edge;
+use psi5_downlink_sim::ToothSim;
 use psi5_sim::Psi5Sim;
 use receiver_core::{ChannelSetup, Message};
 use sent_sim::SentSim;
 use sim_base::{MAX_EDGES, SimFault, Wobble};
 use spc_sim::SpcSim;
-use psi5_downlink_sim::ToothSim;
 
 /// A channel's simulator. Contracts see by which link it sends, and what the simulator of this link has come to.
 #[derive(Drop)]
