@@ -1,1 +1,1 @@
-pub mod ToldCommands
+pub mod DecodedTraces

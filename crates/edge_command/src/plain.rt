@@ -4,7 +4,7 @@ ghost use Rattle.line_base.specs.Reasons.{status_of};
 ghost use Rattle.line_base.specs.declared.reason.Reason.TheVariants as reason;
 ghost use Rattle.receiver_core.specs.Setups.{setup_fault_of};
 ghost use Rattle.link_words.specs.Commands.{CountsFew, words_read, refused, setups_of_command};
-ghost use Rattle.edge_command.specs.Ends.{CommandEnded, CommandLooped, CommandSends, CommandTold, TakesNothing};
+ghost use Rattle.edge_command.specs.Commands.{CommandDid};
 ghost use Rattle.command_base.specs.Counted.{OutputCounted, SourceCounted};
 ghost use Rattle.line_base.specs.declared.faults.WordFault.{WordFault};
 
@@ -36,10 +36,7 @@ fn run_command<S: Source, K: Sink>(
     requires count { CountsFew command.now }
     ensures words { (place : ℕ) (fault : WordFault) → result ≢ reason.Words place fault }
     ensures memory { result ≡ reason.OutOfMemory → (source.new ≡ source.old) × (out.new ≡ out.old) }
-    ensures ended { IfSome (S.left source.old) (λ bytes. CommandEnded command.now result bytes (S.left source.new) (K.got out.old) (K.got out.new)) }
-    ensures sends { IfSome (S.left source.old) (λ bytes. CommandSends command.now result bytes (K.got out.old) (K.got out.new)) }
-    ensures looped { CommandLooped command.now result (K.got out.old) (K.got out.new) }
-    ensures unread { TakesNothing command.now → source.new ≡ source.old }
+    ensures did { CommandDid command.now result (record { left = S.left source.old; left_now = S.left source.new; got = K.got out.old; got_now = K.got out.new }) (source.new ≡ source.old) }
     ensures source { SourceCounted result (S.faults source.old) (S.faults source.new) }
     ensures output { OutputCounted result (K.faults out.old) (K.faults out.new) }
 {
@@ -57,12 +54,8 @@ fn run<S: Source, K: Sink>(alloc: Global, words: &[String], source: &mut S, out:
         (result ≡ reason.Words place fault) ↔ (words_read (map string_bytes words.now) ≡ refused place fault) }
     ensures refused { IsErr (words_read (map string_bytes words.now)) → (source.new ≡ source.old) × (out.new ≡ out.old) }
     ensures memory { result ≡ reason.OutOfMemory → (source.new ≡ source.old) × (out.new ≡ out.old) }
-    ensures ended { IfOk (words_read (map string_bytes words.now)) (λ command. IfSome (S.left source.old)
-        (λ bytes. CommandEnded command result bytes (S.left source.new) (K.got out.old) (K.got out.new))) }
-    ensures sends { IfOk (words_read (map string_bytes words.now)) (λ command. IfSome (S.left source.old)
-        (λ bytes. CommandSends command result bytes (K.got out.old) (K.got out.new))) }
-    ensures looped { IfOk (words_read (map string_bytes words.now)) (λ command. CommandLooped command result (K.got out.old) (K.got out.new)) }
-    ensures unread { IfOk (words_read (map string_bytes words.now)) (λ command. TakesNothing command → source.new ≡ source.old) }
+    ensures did { IfOk (words_read (map string_bytes words.now)) (λ command. CommandDid command result
+        (record { left = S.left source.old; left_now = S.left source.new; got = K.got out.old; got_now = K.got out.new }) (source.new ≡ source.old)) }
     ensures source { SourceCounted result (S.faults source.old) (S.faults source.new) }
     ensures output { OutputCounted result (K.faults out.old) (K.faults out.new) }
 {
@@ -88,23 +81,12 @@ pub fn run_plain<S: Source, K: Sink>(
     ensures refused { IsErr (words_read (map string_bytes words.now)) → (source.new ≡ source.old) × (out.new ≡ out.old) }
     ensures memory { result.reason ≡ reason.OutOfMemory → (source.new ≡ source.old) × (out.new ≡ out.old) }
 
-    // Where source and sink tell their bytes: what was read and written, for each reason.
-    ensures ended { IfOk (words_read (map string_bytes words.now)) (λ command. IfSome (S.left source.old)
-        (λ bytes. CommandEnded command result.reason bytes (S.left source.new) (K.got out.old) (K.got out.new))) }
-
-    // Of each channel whose edges are an honest trace of some messages exactly the reports of these messages are
-    // told, from the first whole frame on, and of a trace that stopped earlier the first of them.
-    ensures tolerance { IfOk (words_read (map string_bytes words.now)) (λ command. IfSome (S.left source.old)
-        (λ bytes. CommandTold command result.reason bytes (K.got out.old) (K.got out.new))) }
-
-    // Where all was read and written, the rows of a simulation are those of edges that are an honest trace of its
-    // messages.
-    ensures sends { IfOk (words_read (map string_bytes words.now)) (λ command. IfSome (S.left source.old)
-        (λ bytes. CommandSends command result.reason bytes (K.got out.old) (K.got out.new))) }
-
-    // A loop has written its line, or a front of it, and takes nothing from the source.
-    ensures looped { IfOk (words_read (map string_bytes words.now)) (λ command. CommandLooped command result.reason (K.got out.old) (K.got out.new)) }
-    ensures unread { IfOk (words_read (map string_bytes words.now)) (λ command. TakesNothing command → source.new ≡ source.old) }
+    // What the command did. Of `decode` and `check`, where the source tells its bytes: what was read and written, for
+    // each reason, and that of each channel whose edges are an honest trace of some messages exactly the reports of these
+    // messages are told, from the first whole frame on. Of `simulate` the same, and that the rows are those of edges that
+    // are an honest trace of its messages. Of `loop`: its line was written, or a front of it, and nothing was taken.
+    ensures did { IfOk (words_read (map string_bytes words.now)) (λ command. CommandDid command result.reason
+        (record { left = S.left source.old; left_now = S.left source.new; got = K.got out.old; got_now = K.got out.new }) (source.new ≡ source.old)) }
 
     // A fault is answered exactly where it was counted, and none is passed over.
     ensures source { SourceCounted result.reason (S.faults source.old) (S.faults source.new) }
