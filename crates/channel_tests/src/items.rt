@@ -1,7 +1,7 @@
 //! Lists of items, and what a receiver reports of them.
 ghost use Rattle.std.specs.Prelude.{◌≡◌, ◌+◌, ◌∷◌, [], None, IfSome};
 ghost use Rattle.receiver_core.specs.Setups.{setup_fault_of};
-ghost use Rattle.receiver_core.specs.Channels.{edges_counted};
+ghost use Rattle.line_base.specs.Items.{edges_counted};
 ghost use Rattle.receiver_core.specs.Readers.{IsTakeable};
 
 use line_base::{Edge, Item};
