@@ -13,7 +13,9 @@ with wrong bits, repeated levels and edges of other lines. Both commands, decode
 status 1 at the first capture that differs, says where, and keeps its list.
 
 With --alone the program isn't run: what the captures hold is counted, and the rules that none breaks are named.
-With --self-test the reading is compared with captures whose reports were worked out by hand.
+With --program PATH another program is compared.
+With --self-test the reading is compared with captures whose reports were worked out by hand, and programs that answer
+wrongly have to be told.
 """
 import argparse
 import pathlib
@@ -22,7 +24,7 @@ import subprocess
 import sys
 import tempfile
 
-from readings import psi5, sent, spc, tooth, worked
+from readings import psi5, sent, spc, stubs, tooth, worked
 
 PROGRAM = pathlib.Path(__file__).parent.parent / ".built" / "pulselink"
 KINDS = {"sent": sent, "psi5": psi5, "spc": spc, "tooth": tooth}
@@ -115,9 +117,9 @@ def random_capture(rng, kinds):
     return setups, rows
 
 
-def compare(command, specs, text, lines, status):
+def compare(program, command, specs, text, lines, status):
     """Where the program differs, a text."""
-    run = subprocess.run([PROGRAM, command, *specs], input=text.encode(), capture_output=True, check=False)
+    run = subprocess.run([program, command, *specs], input=text.encode(), capture_output=True, check=False)
     written = run.stdout.decode().splitlines()
     for number, (one, other) in enumerate(zip(written + [None], lines + [None])):
         if one != other:
@@ -141,19 +143,31 @@ def kept(text):
     return file.name
 
 
+def unseen_stubs():
+    """Which programs that answer wrongly, and which that answers rightly, are taken for another, a text each."""
+    lines = ["00 19 frame 0 000000", "00 total good 1 bad 0 messages 0 gaps 0 lost 0"]
+    right = "".join(f"{line}\n" for line in lines)
+
+    def differs(program):
+        return compare(program, "decode", ["sent:line=0"], "", lines, 0)
+
+    return stubs.unseen(differs, right, "", 0) + stubs.unseen_runs(__file__, ["--kinds", "sent", "1", "1"], ["1", "1"])
+
+
 def main():
     options = argparse.ArgumentParser(description=__doc__, formatter_class=argparse.RawDescriptionHelpFormatter)
     options.add_argument("captures", nargs="?", type=int, default=1000)
     options.add_argument("seed", nargs="?", type=int, default=1)
     options.add_argument("--kinds", default=",".join(KINDS), help="kinds of channels, parted by commas")
     options.add_argument("--alone", action="store_true", help="don't run the program")
-    options.add_argument("--self-test", action="store_true", help="read the captures of readings/worked.py")
+    options.add_argument("--program", type=pathlib.Path, default=PROGRAM, help="the program that is compared")
+    options.add_argument("--self-test", action="store_true", help="read the captures of readings/worked.py, and try wrong programs")
     given = options.parse_args()
     kinds = given.kinds.split(",")
     if not set(kinds) <= set(KINDS):
         options.error(f"the kinds are {', '.join(KINDS)}")
     if given.self_test:
-        wrong = worked.wrong_rows(read_all)
+        wrong = worked.wrong_rows(read_all) + unseen_stubs()
         print("\n".join(wrong) or f"{len(worked.ROWS)} captures are read as worked out")
         sys.exit(bool(wrong))
     rng = random.Random(given.seed)
@@ -166,7 +180,7 @@ def main():
         for line in reports:
             told[specs[int(line[:2])].split(":")[0]].append(name_of(line))
         for command, lines in (("decode", reports + totals), ("check", totals)):
-            differs = None if given.alone else compare(command, specs, text, lines, status)
+            differs = None if given.alone else compare(given.program, command, specs, text, lines, status)
             if differs:
                 print(f"capture {capture} differs: {command} {' '.join(specs)}\n{differs}", file=sys.stderr)
                 print(f"its list is {kept(text)}", file=sys.stderr)

@@ -9,7 +9,9 @@ The simulation, in bench/readings/simulated.py, is plain and shares no code with
 by the second reading. The messages of `simulate` are those of a script, now and then with one that comes out of order
 and with lines that are skipped. Ends with status 1 at the first run that differs, and says where.
 
-With --self-test the random words are compared with the published ones, and one loop with what was worked out by hand.
+With --program PATH another program is compared.
+With --self-test the random words are compared with the published ones, and one loop with what was worked out by hand, and
+programs that answer wrongly have to be told.
 With --realistic 1,000 frames of SENT with enhanced messages and 1,000 bursts of PSI5 are merged into wide rows that end
 by CR and LF, and the program gets them in pieces of 1, 7 and 4,096 bytes.
 """
@@ -20,7 +22,7 @@ import subprocess
 import sys
 import threading
 
-from readings import psi5, sent, spc, tooth
+from readings import psi5, sent, spc, stubs, tooth
 from readings.simulated import Wobble, played, scripted, stretches, sums, text_of
 
 PROGRAM = pathlib.Path(__file__).parent.parent / ".built" / "pulselink"
@@ -79,14 +81,21 @@ def looped(rng, kind, setup=None, seed=None, count=None):
     return ["loop", str(seed), str(count), setup.spec()], "", line, "", 0
 
 
-def differs(words, text, written, errors, status):
+def differs(program, words, text, written, errors, status):
     """Where the program differs, a text."""
-    run = subprocess.run([PROGRAM, *words], input=text.encode(), capture_output=True, check=False)
+    run = subprocess.run([program, *words], input=text.encode(), capture_output=True, check=False)
     ours = (written, errors, status)
     for name, one, other in zip(("output", "standard error", "status"), (run.stdout.decode(), run.stderr.decode(), run.returncode), ours):
         if one != other:
             return f"its {name} is\n{one}\nand not\n{other}"
     return None
+
+
+def unseen_stubs():
+    """Which programs that answer wrongly, and which that answers rightly, are taken for another, a text each."""
+    right = ("0,0,1\n", "input line 2: Order\n", 3)
+    ways = [["--only", "simulate", "1", "1"], ["--only", "loop", "1", "1"], ["1", "1"], ["--realistic"]]
+    return stubs.unseen(lambda program: differs(program, ["simulate"], "", *right), *right) + stubs.unseen_runs(__file__, *ways)
 
 
 def self_test():
@@ -110,9 +119,9 @@ def merged(columns):
     return "".join(f"{line}\r\n" for line in lines)
 
 
-def in_pieces(words, text, size):
+def in_pieces(program, words, text, size):
     """What the program writes, and its status, where it gets the text in pieces of so many bytes."""
-    run = subprocess.Popen([PROGRAM, *words], stdin=subprocess.PIPE, stdout=subprocess.PIPE, bufsize=0)
+    run = subprocess.Popen([program, *words], stdin=subprocess.PIPE, stdout=subprocess.PIPE, bufsize=0)
     told = []
     reader = threading.Thread(target=lambda: told.append(run.stdout.read()))
     reader.start()
@@ -123,12 +132,12 @@ def in_pieces(words, text, size):
     return told[0].decode(), run.wait()
 
 
-def realistic():
+def realistic(program):
     """Whether two sensors' edges are read alike in pieces of each size, with the right totals."""
     setups = [sent.Setup(0, serial="enhanced"), psi5.Setup(1)]
     edges = [played(setup, seed, scripted(setup, seed + 1, 1000))[0] for seed, setup in enumerate(setups, 20)]
     text = merged([[(time, level) for time, _, level in rows] for rows in edges]).encode()
-    told = [in_pieces(["decode", "sent:line=0,serial=enhanced", "psi5:line=1"], text, size) for size in (1, 7, 4096)]
+    told = [in_pieces(program, ["decode", "sent:line=0,serial=enhanced", "psi5:line=1"], text, size) for size in (1, 7, 4096)]
     totals = "00 total good 1000 bad 0 messages 55 gaps 0 lost 0\n01 total good 1000 bad 0 messages 0 gaps 0 lost 0\n"
     return told[0] == told[1] == told[2] and told[0][0].endswith(totals) and told[0][1] == 0
 
@@ -138,15 +147,16 @@ def main():
     options.add_argument("runs", nargs="?", type=int, default=100)
     options.add_argument("seed", nargs="?", type=int, default=1)
     options.add_argument("--only", choices=["simulate", "loop"])
+    options.add_argument("--program", type=pathlib.Path, default=PROGRAM)
     options.add_argument("--self-test", action="store_true")
     options.add_argument("--realistic", action="store_true")
     given = options.parse_args()
     if given.self_test:
-        good = self_test()
-        print("the random words and the loop are right" if good else "the second simulation is wrong")
-        sys.exit(not good)
+        good, unseen = self_test(), unseen_stubs()
+        print("\n".join(unseen) or ("the random words and the loop are right" if good else "the second simulation is wrong"))
+        sys.exit(not good or bool(unseen))
     if given.realistic:
-        good = realistic()
+        good = realistic(given.program)
         print("two sensors are read alike in all pieces" if good else "two sensors are read otherwise")
         sys.exit(not good)
     rng = random.Random(given.seed)
@@ -155,7 +165,7 @@ def main():
         for name, make in makers.items():
             if given.only in (None, name):
                 words, *right = make(rng, KINDS[run % len(KINDS)])
-                where = differs(words, *right)
+                where = differs(given.program, words, *right)
                 if where:
                     print(f"run {run} differs: {' '.join(words)}\n{right[0]}\n{where}", file=sys.stderr)
                     sys.exit(1)
